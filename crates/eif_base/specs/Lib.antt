@@ -1,0 +1,4 @@
+pub mod Causes
+pub mod Codes
+pub mod Reads
+pub mod Writes
