@@ -3,5 +3,7 @@ pub mod LeftOut
 pub mod Lexemes
 pub mod Literals
 pub mod Places
+pub mod Plain
+pub mod Spelling
 pub mod Tokens
 pub mod Words
