@@ -1,3 +1,4 @@
 pub mod Height
+pub mod Parts
 pub mod Places
 pub mod Tree

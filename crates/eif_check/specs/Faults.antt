@@ -1,0 +1,100 @@
+-- The faults of a class text and a root: the breaches of the first rule that has any.
+use Rattle.std.specs.Prelude.{◌≡◌, ℕ, Bool, true, if◌then◌else◌, ◌⊎◌, List, [], ◌∷◌, Option, Some, None, Result, Ok, Err, flat_map}
+use Rattle.std.specs.Str.{bytes_eq}
+use Rattle.eif_base.specs.declared.Place.{Place}
+use Rattle.eif_base.specs.declared.Fault.{Fault}
+use Rattle.eif_base.specs.declared.Code.{Code}
+use Rattle.eif_base.specs.declared.Code.TheVariants as code
+use Rattle.eif_base.specs.Files.{no_file}
+use Rattle.eif_tree.specs.declared.NameAt.{NameAt}
+use Rattle.eif_tree.specs.Tree.{DeclT, ClassT}
+use Rattle.eif_tree.specs.Parts.{has_name, declarations, declared_names, creator_names, body_of, called_in}
+use Rattle.eif_grammar.specs.Tokens.{Token, tokens_of}
+use Rattle.eif_grammar.specs.Places.{place_at}
+use Rattle.eif_grammar.specs.LeftOut.{left_out, left_out_text}
+use Rattle.eif_grammar.specs.Plain.{PlainClass, plain_tree, PlainText}
+use Rattle.eif_check.specs.declared.root.Root.{Root}
+use Rattle.eif_check.specs.Plain.{is_plain}
+
+-- ---- the text
+
+-- a fault that is told of no class and no feature
+abbrev pub text_fault : Code → Place → List ℕ → Fault
+text_fault c place about = record { code = c; case = 1; class = []; feature = []; place = place; about = about }
+
+abbrev pub first_place : ℕ → Place
+first_place file = record { file = file; offset = 0; line = 1; column = 1 }
+
+-- XLEX: no blank, comment or token starts there
+abbrev pub stuck_fault : Place → Fault
+stuck_fault place = text_fault code.Xlex place []
+
+-- XOUT: that token is left out
+abbrev pub left_out_fault : Token → Fault
+left_out_fault t = text_fault code.Xout t.place (left_out_text t.terminal t.text)
+
+-- XYET: the text is no plain class
+abbrev pub yet_fault : ℕ → Fault
+yet_fault file = text_fault code.Xyet (first_place file) []
+
+-- ---- the root and the names of a class
+
+abbrev pub no_place : Place
+no_place = record { file = no_file; offset = 0; line = 0; column = 0 }
+
+-- VSRT: the root class is not the given class
+abbrev pub root_class_faults : Root → ClassT → List Fault
+root_class_faults root c =
+    if bytes_eq root.class_name c.name then []
+    else record { code = code.Vsrt; case = 1; class = root.class_name; feature = []; place = no_place; about = root.class_name } ∷ []
+
+-- VSRP: the root procedure is no creator of it
+abbrev pub root_procedure_faults : Root → ClassT → List Fault
+root_procedure_faults root c =
+    if has_name (creator_names c) root.procedure_name then []
+    else record { code = code.Vsrp; case = 1; class = c.name; feature = []; place = c.place; about = root.procedure_name } ∷ []
+
+-- the name of a declaration that faults in it are told of
+abbrev pub feature_name : List NameAt → List ℕ
+feature_name [] = []
+feature_name (n ∷ ns) = n.name
+
+-- VEEN: a name that is called is not declared
+abbrev pub unknown_name_fault : ClassT → DeclT → NameAt → List Fault
+unknown_name_fault c d n =
+    if has_name (declared_names c) n.name then []
+    else record { code = code.Veen; case = 1; class = c.name; feature = feature_name d.names; place = n.place; about = n.name } ∷ []
+
+abbrev pub unknown_name_faults : ClassT → List Fault
+unknown_name_faults c = flat_map (λ d. flat_map (unknown_name_fault c d) (called_in (body_of d.kind))) (declarations c)
+
+-- the later rule is judged where the earlier one has no breach
+abbrev pub first_broken : List Fault → List Fault → List Fault
+first_broken [] later = later
+first_broken (f ∷ fs) later = f ∷ fs
+
+abbrev pub class_faults : Root → ClassT → List Fault
+class_faults root c = first_broken (root_class_faults root c) (first_broken (root_procedure_faults root c) (unknown_name_faults c))
+
+-- ---- all of it
+
+-- the tokens are those of a plain class
+abbrev pub IsPlainText : List Token → PlainClass → Type 0
+IsPlainText tokens p = PlainText tokens p × (is_plain (plain_tree p) ≡ true)
+
+abbrev pub PlainFaults : ℕ → List Token → Root → List Fault → Type 0
+PlainFaults file tokens root faults =
+    ((p : PlainClass) × IsPlainText tokens p × (faults ≡ class_faults root (plain_tree p)))
+    ⊎ (((p : PlainClass) → IsPlainText tokens p → ⊥) × (faults ≡ yet_fault file ∷ []))
+
+abbrev pub TokenFaults : ℕ → List Token → Root → Option Token → List Fault → Type 0
+TokenFaults file tokens root (Some t) faults = faults ≡ left_out_fault t ∷ []
+TokenFaults file tokens root None faults = PlainFaults file tokens root faults
+
+abbrev pub LexedFaults : ℕ → List ℕ → Root → Result (List Token) ℕ → List Fault → Type 0
+LexedFaults file text root (Err at) faults = faults ≡ stuck_fault (place_at file text at) ∷ []
+LexedFaults file text root (Ok tokens) faults = TokenFaults file tokens root (left_out tokens) faults
+
+-- these are the faults of the text of that file, with that root
+abbrev pub FaultsOf : ℕ → List ℕ → Root → List Fault → Type 0
+FaultsOf file text root faults = LexedFaults file text root (tokens_of file text) faults

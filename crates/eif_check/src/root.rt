@@ -1,0 +1,8 @@
+use eif_base::Name;
+
+/// Where a run begins: the root class is created by the root procedure.
+#[derive(Drop)]
+pub struct Root {
+    pub class_name: Name,
+    pub procedure_name: Name,
+}

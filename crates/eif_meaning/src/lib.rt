@@ -1,0 +1,2 @@
+//! What a run of a system does.
+#![tactic(auto)]
