@@ -1,9 +1,15 @@
+pub mod Forms
 pub mod Kinds
 pub mod LeftOut
 pub mod Lexemes
 pub mod Literals
+pub mod Parts
 pub mod Places
 pub mod Plain
+pub mod SpelledClasses
+pub mod SpelledExpressions
+pub mod SpelledInstructions
+pub mod SpelledTypes
 pub mod Spelling
 pub mod Tokens
 pub mod Words

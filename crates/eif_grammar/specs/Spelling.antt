@@ -1,5 +1,5 @@
 -- How tokens spell something: a spelling relates the tokens from some place on to those that follow what is spelled.
-use Rattle.std.specs.Prelude.{◌≡◌, ℕ, ◌⊎◌, List, [], ◌∷◌}
+use Rattle.std.specs.Prelude.{◌≡◌, ◌≢◌, ℕ, ◌⊎◌, List, [], ◌∷◌}
 use Rattle.std.specs.Str.{str_to_ascii_lowercase}
 use Rattle.eif_base.specs.declared.Place.{Place}
 use Rattle.eif_tree.specs.declared.NameAt.{NameAt}
@@ -59,3 +59,22 @@ name_at p n = one (λ token. (token.terminal ≡ t.Identifier) × (token.place �
 
 abbrev pub the_name : NameAt → Spelling
 the_name n = name_at n.place n.name
+
+-- the token, or nothing where what follows isn't it
+abbrev pub maybe : Terminal → Spelling
+maybe x = the x or before (λ y. y ≢ x)
+
+-- All `;` that stand there: none, or many.
+abbrev pub semicolons : Spelling
+semicolons [] rest = [] ≡ rest
+semicolons (token ∷ tokens) rest =
+    ((token.terminal ≡ t.Semicolon) × semicolons tokens rest) ⊎ ((token.terminal ≢ t.Semicolon) × (token ∷ tokens ≡ rest))
+
+-- names with commas between
+abbrev pub more_names : List NameAt → Spelling
+more_names [] = before (λ x. x ≢ t.Comma)
+more_names (n ∷ ns) = the t.Comma ⨟ the_name n ⨟ more_names ns
+
+abbrev pub names : List NameAt → Spelling
+names [] = never
+names (n ∷ ns) = the_name n ⨟ more_names ns

@@ -1,6 +1,6 @@
 -- How high a tree is: 1 for a leaf, and otherwise one more than its highest part.
-use Rattle.std.specs.Prelude.{ℕ, ◌+◌, max, Option, Some, None}
-use Rattle.eif_tree.specs.Tree.{TypeT, Types, type_at, no_types, and_type, Ex, Exs, literal, void_value, current_value, result_value, unqualified, precursor, qualified, creation, test, paren, unary, binary, no_exs, and_ex, Ins, Inss, Branches, Otherwise, assign, call, create, choose, loop, check, no_inss, and_ins, no_branches, and_branch, no_else, else_part}
+use Rattle.std.specs.Prelude.{ℕ, ◌+◌, max, List, [], ◌∷◌, Option, Some, None}
+use Rattle.eif_tree.specs.Tree.{TypeT, Types, type_at, no_types, and_type, Ex, Exs, literal, void_value, current_value, result_value, unqualified, precursor, qualified, creation, test, paren, unary, binary, no_exs, and_ex, Ins, Inss, Branches, Otherwise, assign, call, create, choose, loop, check, no_inss, and_ins, no_branches, and_branch, no_else, else_part, GroupT, KindT, attribute, constant, deferred_body, routine, DeclT, FeaturesT, ClassT}
 
 abbrev mutual
   pub type_height : TypeT → ℕ
@@ -59,3 +59,32 @@ abbrev mutual
   pub otherwise_height : Otherwise → ℕ
   otherwise_height no_else = 0
   otherwise_height (else_part is) = compound_height is
+
+-- ---- of a class text: its highest type, expression or instruction
+
+-- the highest of a list
+abbrev pub highest : {A : Type 0} → (A → ℕ) → List A → ℕ
+highest f [] = 0
+highest f (x ∷ xs) = max (f x) (highest f xs)
+
+abbrev pub group_height : GroupT → ℕ
+group_height g = type_height g.type_tree
+
+abbrev pub kind_height : KindT → ℕ
+kind_height attribute = 0
+kind_height (constant x) = 0
+kind_height deferred_body = 0
+kind_height (routine ls is) = max (highest group_height ls) (compound_height is)
+
+abbrev pub decl_height : DeclT → ℕ
+decl_height d =
+    max (highest group_height d.arguments) (max (written_height d.result_type)
+    (max (heights d.preconditions) (max (kind_height d.kind) (heights d.postconditions))))
+
+abbrev pub features_height : FeaturesT → ℕ
+features_height f = highest decl_height f.decls
+
+abbrev pub class_height : ClassT → ℕ
+class_height c =
+    max (highest (λ f. written_height f.constraint) c.formals) (max (highest (λ p. type_height p.parent) c.parents)
+    (max (highest features_height c.features) (heights c.invariants)))
