@@ -1,6 +1,23 @@
 //! The trees of class texts, a builder for each form, and how high they are.
 #![tactic(auto)]
 
+pub mod builders;
+mod class;
+pub mod class_builders;
+mod copies;
+mod cross;
+mod heights;
+mod places;
 mod tree;
 
-pub use tree::{Literal, Mark, NameAt, Op, RenamePair};
+pub use class::{
+    ClassTree, Clients, CreatorPart, ExportItem, FeatureClause, FeatureDecl, FeatureKind,
+    FormalTree, Group, ParentClause,
+};
+pub use copies::copy_type;
+pub use cross::trees_cross;
+pub use heights::{compound_height, height, instr_height, type_height};
+pub use places::{place_of, type_place};
+pub use tree::{
+    Assertion, Branch, Expr, ExprKind, Instr, Literal, Mark, NameAt, Op, RenamePair, TypeTree,
+};

@@ -1,0 +1,9 @@
+use Rattle.std.proofs.Common.{◌≡◌, map, max, drop}
+use Rattle.eif_tree.specs.View.{type_view, types_from}
+use Rattle.eif_tree.specs.Height as spec
+use Rattle.eif_tree.proofs.heights.+types.Given as goal
+
+-- the heights so far and those to come are those of all
+abbrev pub invariant-types_height-loop-t : goal.invariant-types_height-loop-t
+invariant-types_height-loop-t l =
+    max l.most (spec.types_height (types_from (map type_view (drop l.t-index l.ts)))) ≡ spec.types_height (types_from (map type_view l.ts))

@@ -1,0 +1,20 @@
+ghost use Rattle.std.specs.Prelude.{◌≡◌};
+ghost use Rattle.eif_tree.specs.Places as spec;
+ghost use Rattle.eif_tree.specs.View.{expr_view, type_view};
+
+use crate::tree::{Expr, TypeTree};
+use eif_base::Place;
+
+/// Where an expression begins.
+pub fn place_of(e: &Expr) -> Place
+    ensures { result ≡ spec.place_of (expr_view e.now) }
+{
+    e.place
+}
+
+/// Where a type begins.
+pub fn type_place(t: &TypeTree) -> Place
+    ensures { result ≡ spec.type_place (type_view t.now) }
+{
+    t.place
+}
