@@ -1,5 +1,13 @@
 pub mod Causes
 pub mod Codes
+pub mod FileLists
+pub mod FileTexts
 pub mod Files
+pub mod MemSink
+pub mod MemTexts
+pub mod OutSink
 pub mod Reads
+pub mod SureSink
+pub mod SureTexts
+pub mod TextMap
 pub mod Writes

@@ -1,10 +1,14 @@
-ghost use Rattle.std.specs.Prelude.{◌≡◌, ◌<◌, ◌≤◌, ◌++◌, ◌∷◌, [], Some, OnOk, OnErr, IfOk, take, length, slice_get};
+ghost use Rattle.std.specs.Prelude.{◌≡◌, ◌<◌, ◌≤◌, ◌++◌, ◌∷◌, [], Some, OnOk, OnErr, IfOk, take, length, slice_get, List};
+ghost use Rattle.std.specs.List.Sorted.{IsPermutation, IsSortedByClosure};
+ghost use Rattle.std.specs.List.Retain.{IsDeduped};
+ghost use Rattle.std.specs.Fn.{CalledAtPairMut};
 
 use crate::code::Code;
 use crate::memory::Memory;
 use crate::name::Name;
 use crate::place::Place;
 use std::alloc::Global;
+use std::cmp::Ordering;
 use std::marker::Model;
 
 /// One breach of one rule. A missing name is empty. `case` is the number of the rule within its
@@ -98,6 +102,20 @@ impl FaultList {
         ensures { slice_get self.now i ≡ Some result.now }
     {
         &self.faults[i]
+    }
+
+    /// Sorts by `compare`, and then drops each fault that is, by `same`, the one kept before it.
+    /// This takes no memory.
+    pub fn sort_dedup_by<
+        C: FnMut(&Fault, &Fault) -> Ordering,
+        S: FnMut(&mut Fault, &mut Fault) -> bool,
+    >(&mut self, compare: C, same: S)
+        requires compares { C.IsAlwaysCallable compare }
+        requires tells { S.IsAlwaysCallable same }
+        ensures { (sorted : List Fault) × IsPermutation self.old sorted × IsSortedByClosure C.FnMut compare sorted × IsDeduped (CalledAtPairMut S.FnMut) same sorted self.new }
+    {
+        self.faults.sort_unstable_by(compare);
+        self.faults.dedup_by(same);
     }
 }
 

@@ -4,20 +4,41 @@
 
 mod bytes;
 mod code;
+mod crosses;
 mod fault;
+mod file_list;
+mod file_texts;
 mod gate;
+mod mem_sink;
+mod mem_texts;
 mod memory;
 mod name;
+mod out_sink;
 mod place;
+mod read_log;
 mod sink;
+mod sure_sink;
+mod sure_texts;
+mod text_map;
 mod texts;
 
 pub use bytes::Bytes;
 pub use code::Code;
+pub use crosses::base_crosses;
 pub use fault::{Fault, FaultList};
+pub use file_list::{FileList, file_list_crosses};
+pub use file_texts::FileTexts;
 pub use gate::{Gate, OpenGate};
+pub use mem_sink::MemSink;
+pub use mem_texts::MemTexts;
 pub use memory::Memory;
 pub use name::Name;
+pub use out_sink::OutSink;
 pub use place::{NO_FILE, Place};
 pub use sink::{Sink, WriteFail};
+pub use sure_sink::SureSink;
+pub use sure_texts::SureTexts;
 pub use texts::{Ended, ReadEnd, ReadFail, Texts};
+
+#[cfg(test)]
+mod tests;

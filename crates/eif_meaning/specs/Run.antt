@@ -1,8 +1,8 @@
 -- What a run does. It goes over trees; the call of a routine is handed to `again`, which has one level less.
 -- A form that has no meaning in this version goes wrong as a missing feature.
-use Rattle.std.specs.Prelude.{ℕ, zero, suc, if◌then◌else◌, List, [], ◌∷◌, ◌++◌, Option, Some, None, slice_get}
+use Rattle.std.specs.Prelude.{ℕ, zero, suc, if◌then◌else◌, List, [], ◌∷◌, Option, Some, None, slice_get}
 use Rattle.eif_tree.specs.Tree.{Ex, unqualified, no_exs, Ins, call, Inss, no_inss, and_ins, GroupT, KindT, routine, DeclT}
-use Rattle.eif_meaning.specs.Values.{Value, Object, Store, Wrong, no_feature, Outcome, done, stopped, cut_off, wrong, Does, after, ◌>>=◌, give, fail, some_or}
+use Rattle.eif_meaning.specs.Values.{Value, Object, Wrong, no_feature, Outcome, done, stopped, cut_off, wrong, Does, ◌>>=◌, give, fail, some_or}
 use Rattle.eif_meaning.specs.System.{Origin, System}
 
 -- the run of a routine on an object: the object, the class of its text, its declaration; no value where it is no function

@@ -1,2 +1,4 @@
+pub mod OneReport
 pub mod Order
 pub mod Report
+pub mod Within

@@ -8,21 +8,27 @@ use std::alloc::Global;
 
 /// The same type once more.
 #[cycle(copies)]
-pub fn copy_type(alloc: Global, t: &TypeTree) -> Result<TypeTree, Memory>
-    ensures { IfOk result (λ c. type_view c ≡ type_view t.now) }
+pub fn copy_type(alloc: Global, type_tree: &TypeTree) -> Result<TypeTree, Memory>
+    ensures { IfOk result (λ copy. type_view copy ≡ type_view type_tree.now) }
 {
-    let name = t.name.copy(alloc)?;
-    let actuals = copy_types(alloc, &t.actuals)?;
-    Ok(written_type(t.place, t.name_place, t.mark, name, actuals))
+    let name = type_tree.name.copy(alloc)?;
+    let actuals = copy_types(alloc, &type_tree.actuals)?;
+    Ok(written_type(
+        type_tree.place,
+        type_tree.name_place,
+        type_tree.mark,
+        name,
+        actuals,
+    ))
 }
 
 #[cycle(copies)]
-fn copy_types(alloc: Global, ts: &[TypeTree]) -> Result<Vec<TypeTree>, Memory>
-    ensures { IfOk result (λ cs. map type_view cs.items ≡ map type_view ts.now) }
+fn copy_types(alloc: Global, types: &[TypeTree]) -> Result<Vec<TypeTree>, Memory>
+    ensures { IfOk result (λ copies. map type_view copies.items ≡ map type_view types.now) }
 {
     let mut copies = Vec::new(alloc);
-    for t in ts {
-        copies.push(copy_type(alloc, t)?)?;
+    for type_tree in types {
+        copies.push(copy_type(alloc, type_tree)?)?;
     }
     Ok(copies)
 }

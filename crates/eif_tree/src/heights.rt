@@ -7,21 +7,21 @@ use crate::tree::{Assertion, Branch, Expr, ExprKind, Instr, TypeTree};
 
 /// How high a type is: 1 with no actuals.
 #[cycle(types)]
-pub fn type_height(t: &TypeTree) -> u32
-    requires { spec.type_height (type_view t.now) < 2 ^ 32 }
-    ensures { result ≡ spec.type_height (type_view t.now) }
+pub fn type_height(type_tree: &TypeTree) -> u32
+    requires { spec.type_height (type_view type_tree.now) < 2 ^ 32 }
+    ensures { result ≡ spec.type_height (type_view type_tree.now) }
 {
-    types_height(&t.actuals) + 1
+    types_height(&type_tree.actuals) + 1
 }
 
 #[cycle(types)]
-fn types_height(ts: &[TypeTree]) -> u32
-    requires { spec.types_height (types_from (map type_view ts.now)) < 2 ^ 32 }
-    ensures { result ≡ spec.types_height (types_from (map type_view ts.now)) }
+fn types_height(types: &[TypeTree]) -> u32
+    requires { spec.types_height (types_from (map type_view types.now)) < 2 ^ 32 }
+    ensures { result ≡ spec.types_height (types_from (map type_view types.now)) }
 {
     let mut most = 0;
-    for t in ts {
-        let height = type_height(t);
+    for type_tree in types {
+        let height = type_height(type_tree);
         if most < height {
             most = height;
         }
@@ -29,23 +29,23 @@ fn types_height(ts: &[TypeTree]) -> u32
     most
 }
 
-fn written_height(t: &Option<TypeTree>) -> u32
-    requires { spec.written_height (option_map type_view t.now) < 2 ^ 32 }
-    ensures { result ≡ spec.written_height (option_map type_view t.now) }
+fn written_height(type_tree: &Option<TypeTree>) -> u32
+    requires { spec.written_height (option_map type_view type_tree.now) < 2 ^ 32 }
+    ensures { result ≡ spec.written_height (option_map type_view type_tree.now) }
 {
-    match t {
-        Some(t) => type_height(t),
+    match type_tree {
+        Some(written) => type_height(written),
         None => 0,
     }
 }
 
 /// How high an expression is: 1 with no parts.
 #[cycle(exprs)]
-pub fn height(e: &Expr) -> u32
-    requires { spec.height (expr_view e.now) < 2 ^ 32 }
-    ensures { result ≡ spec.height (expr_view e.now) }
+pub fn height(expr: &Expr) -> u32
+    requires { spec.height (expr_view expr.now) < 2 ^ 32 }
+    ensures { result ≡ spec.height (expr_view expr.now) }
 {
-    match &e.kind {
+    match &expr.kind {
         ExprKind::Lit(_) | ExprKind::VoidValue | ExprKind::CurrentValue | ExprKind::ResultValue =>
             1,
         ExprKind::Unqualified { args, .. } => heights(args) + 1,
@@ -68,13 +68,13 @@ pub fn height(e: &Expr) -> u32
 }
 
 #[cycle(exprs)]
-fn heights(es: &[Expr]) -> u32
-    requires { spec.heights (exs_from (map expr_view es.now)) < 2 ^ 32 }
-    ensures { result ≡ spec.heights (exs_from (map expr_view es.now)) }
+fn heights(exprs: &[Expr]) -> u32
+    requires { spec.heights (exs_from (map expr_view exprs.now)) < 2 ^ 32 }
+    ensures { result ≡ spec.heights (exs_from (map expr_view exprs.now)) }
 {
     let mut most = 0;
-    for e in es {
-        let height = height(e);
+    for expr in exprs {
+        let height = height(expr);
         if most < height {
             most = height;
         }
@@ -96,23 +96,23 @@ fn claims_height(claims: &[Assertion]) -> u32
     most
 }
 
-fn maybe_height(e: &Option<Expr>) -> u32
-    requires { spec.maybe_height (option_map expr_view e.now) < 2 ^ 32 }
-    ensures { result ≡ spec.maybe_height (option_map expr_view e.now) }
+fn maybe_height(expr: &Option<Expr>) -> u32
+    requires { spec.maybe_height (option_map expr_view expr.now) < 2 ^ 32 }
+    ensures { result ≡ spec.maybe_height (option_map expr_view expr.now) }
 {
-    match e {
-        Some(e) => height(e),
+    match expr {
+        Some(written) => height(written),
         None => 0,
     }
 }
 
 /// How high an instruction is.
 #[cycle(instrs)]
-pub fn instr_height(i: &Instr) -> u32
-    requires { spec.instr_height (instr_view i.now) < 2 ^ 32 }
-    ensures { result ≡ spec.instr_height (instr_view i.now) }
+pub fn instr_height(instr: &Instr) -> u32
+    requires { spec.instr_height (instr_view instr.now) < 2 ^ 32 }
+    ensures { result ≡ spec.instr_height (instr_view instr.now) }
 {
-    match i {
+    match instr {
         Instr::Assign { value, .. } => height(value) + 1,
         Instr::Call { call } => height(call) + 1,
         Instr::Create {
@@ -136,10 +136,8 @@ pub fn instr_height(i: &Instr) -> u32
             variant,
         } => {
             let claims = claims_height(invariants).max(height(exit).max(maybe_height(variant)));
-            compound_height(start)
-                .max(compound_height(body))
-                .max(claims)
-                + 1
+            let steps = compound_height(start).max(compound_height(body));
+            claims.max(steps) + 1
         }
         Instr::Check { claims } => claims_height(claims) + 1,
     }
@@ -147,13 +145,13 @@ pub fn instr_height(i: &Instr) -> u32
 
 /// How high the highest of these instructions is, and 0 where there are none.
 #[cycle(instrs)]
-pub fn compound_height(is: &[Instr]) -> u32
-    requires { spec.compound_height (inss_from (map instr_view is.now)) < 2 ^ 32 }
-    ensures { result ≡ spec.compound_height (inss_from (map instr_view is.now)) }
+pub fn compound_height(compound: &[Instr]) -> u32
+    requires { spec.compound_height (inss_from (map instr_view compound.now)) < 2 ^ 32 }
+    ensures { result ≡ spec.compound_height (inss_from (map instr_view compound.now)) }
 {
     let mut most = 0;
-    for i in is {
-        let height = instr_height(i);
+    for instr in compound {
+        let height = instr_height(instr);
         if most < height {
             most = height;
         }
@@ -162,13 +160,13 @@ pub fn compound_height(is: &[Instr]) -> u32
 }
 
 #[cycle(instrs)]
-fn branches_height(bs: &[Branch]) -> u32
-    requires { spec.branches_height (branches_from (map branch_view bs.now)) < 2 ^ 32 }
-    ensures { result ≡ spec.branches_height (branches_from (map branch_view bs.now)) }
+fn branches_height(branches: &[Branch]) -> u32
+    requires { spec.branches_height (branches_from (map branch_view branches.now)) < 2 ^ 32 }
+    ensures { result ≡ spec.branches_height (branches_from (map branch_view branches.now)) }
 {
     let mut most = 0;
-    for b in bs {
-        let height = height(&b.condition).max(compound_height(&b.body));
+    for branch in branches {
+        let height = height(&branch.condition).max(compound_height(&branch.body));
         if most < height {
             most = height;
         }

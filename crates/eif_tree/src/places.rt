@@ -6,15 +6,15 @@ use crate::tree::{Expr, TypeTree};
 use eif_base::Place;
 
 /// Where an expression begins.
-pub fn place_of(e: &Expr) -> Place
-    ensures { result ≡ spec.place_of (expr_view e.now) }
+pub fn place_of(expr: &Expr) -> Place
+    ensures { result ≡ spec.place_of (expr_view expr.now) }
 {
-    e.place
+    expr.place
 }
 
 /// Where a type begins.
-pub fn type_place(t: &TypeTree) -> Place
-    ensures { result ≡ spec.type_place (type_view t.now) }
+pub fn type_place(type_tree: &TypeTree) -> Place
+    ensures { result ≡ spec.type_place (type_view type_tree.now) }
 {
-    t.place
+    type_tree.place
 }

@@ -4,6 +4,6 @@ use Rattle.eif_tree.specs.Height as spec
 use Rattle.eif_tree.proofs.heights.+exprs.Given as goal
 
 -- the heights so far and those to come are those of all
-abbrev pub invariant-heights-loop-e : goal.invariant-heights-loop-e
-invariant-heights-loop-e l =
-    max l.most (spec.heights (exs_from (map expr_view (drop l.e-index l.es)))) ≡ spec.heights (exs_from (map expr_view l.es))
+abbrev pub invariant-heights-loop-expr : goal.invariant-heights-loop-expr
+invariant-heights-loop-expr l =
+    max l.most (spec.heights (exs_from (map expr_view (drop l.expr-index l.exprs)))) ≡ spec.heights (exs_from (map expr_view l.exprs))

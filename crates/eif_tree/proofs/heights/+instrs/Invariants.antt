@@ -3,10 +3,10 @@ use Rattle.eif_tree.specs.View.{instr_view, inss_from, branch_view, branches_fro
 use Rattle.eif_tree.specs.Height as spec
 use Rattle.eif_tree.proofs.heights.+instrs.Given as goal
 
-abbrev pub invariant-compound_height-loop-i : goal.invariant-compound_height-loop-i
-invariant-compound_height-loop-i l =
-    max l.most (spec.compound_height (inss_from (map instr_view (drop l.i-index l.is)))) ≡ spec.compound_height (inss_from (map instr_view l.is))
+abbrev pub invariant-compound_height-loop-instr : goal.invariant-compound_height-loop-instr
+invariant-compound_height-loop-instr l =
+    max l.most (spec.compound_height (inss_from (map instr_view (drop l.instr-index l.compound)))) ≡ spec.compound_height (inss_from (map instr_view l.compound))
 
-abbrev pub invariant-branches_height-loop-b : goal.invariant-branches_height-loop-b
-invariant-branches_height-loop-b l =
-    max l.most (spec.branches_height (branches_from (map branch_view (drop l.b-index l.bs)))) ≡ spec.branches_height (branches_from (map branch_view l.bs))
+abbrev pub invariant-branches_height-loop-branch : goal.invariant-branches_height-loop-branch
+invariant-branches_height-loop-branch l =
+    max l.most (spec.branches_height (branches_from (map branch_view (drop l.branch-index l.branches)))) ≡ spec.branches_height (branches_from (map branch_view l.branches))

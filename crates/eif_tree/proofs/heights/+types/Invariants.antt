@@ -4,6 +4,6 @@ use Rattle.eif_tree.specs.Height as spec
 use Rattle.eif_tree.proofs.heights.+types.Given as goal
 
 -- the heights so far and those to come are those of all
-abbrev pub invariant-types_height-loop-t : goal.invariant-types_height-loop-t
-invariant-types_height-loop-t l =
-    max l.most (spec.types_height (types_from (map type_view (drop l.t-index l.ts)))) ≡ spec.types_height (types_from (map type_view l.ts))
+abbrev pub invariant-types_height-loop-type_tree : goal.invariant-types_height-loop-type_tree
+invariant-types_height-loop-type_tree l =
+    max l.most (spec.types_height (types_from (map type_view (drop l.type_tree-index l.types)))) ≡ spec.types_height (types_from (map type_view l.types))

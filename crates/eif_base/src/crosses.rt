@@ -1,0 +1,19 @@
+use crate::bytes::Bytes;
+use crate::fault::FaultList;
+use crate::memory::Memory;
+use crate::name::Name;
+use crate::place::Place;
+
+fn crosses<T: Send>() {}
+
+fn is_shared<T: Send + Sync>() {}
+
+/// Is there for what its compiling shows: results may be sent to another thread, and what every
+/// layer reads may be shared between threads.
+pub fn base_crosses() {
+    crosses::<FaultList>();
+    crosses::<Memory>();
+    is_shared::<Place>();
+    is_shared::<Name>();
+    is_shared::<Bytes>();
+}

@@ -1,0 +1,4 @@
+pub mod Lines
+pub mod OneReport
+pub mod Sorting
+pub mod Total
