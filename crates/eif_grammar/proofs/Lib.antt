@@ -1,3 +1,16 @@
+pub mod ExpressionComplete
+pub mod ExpressionLaws
+pub mod ExpressionMeaning
+pub mod ExpressionSound
+pub mod ExpressionSteps
+pub mod Levels
 pub mod Meanings
+pub mod Meant
+pub mod OneReading
 pub mod Readers
+pub mod Starts
+pub mod Taken
 pub mod Terminals
+pub mod TypeComplete
+pub mod TypeLaws
+pub mod TypeMeaning
