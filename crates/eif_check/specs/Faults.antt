@@ -43,30 +43,37 @@ abbrev pub no_place : Place
 no_place = record { file = no_file; offset = 0; line = 0; column = 0 }
 
 -- VSRT: the root class is not the given class
+abbrev pub root_class_fault : Root → Fault
+root_class_fault root = record { code = code.Vsrt; case = 1; class = root.class_name; feature = []; place = no_place; about = root.class_name }
+
 abbrev pub root_class_faults : Root → ClassT → List Fault
-root_class_faults root c =
-    if bytes_eq root.class_name c.name then []
-    else record { code = code.Vsrt; case = 1; class = root.class_name; feature = []; place = no_place; about = root.class_name } ∷ []
+root_class_faults root c = if bytes_eq root.class_name c.name then [] else root_class_fault root ∷ []
 
 -- VSRP: the root procedure is no creator of it
+abbrev pub root_procedure_fault : Root → ClassT → Fault
+root_procedure_fault root c = record { code = code.Vsrp; case = 1; class = c.name; feature = []; place = c.place; about = root.procedure_name }
+
 abbrev pub root_procedure_faults : Root → ClassT → List Fault
-root_procedure_faults root c =
-    if has_name (creator_names c) root.procedure_name then []
-    else record { code = code.Vsrp; case = 1; class = c.name; feature = []; place = c.place; about = root.procedure_name } ∷ []
+root_procedure_faults root c = if has_name (creator_names c) root.procedure_name then [] else root_procedure_fault root c ∷ []
 
 -- the name of a declaration that faults in it are told of
 abbrev pub feature_name : List NameAt → List ℕ
 feature_name [] = []
 feature_name (n ∷ ns) = n.name
 
--- VEEN: a name that is called is not declared
-abbrev pub unknown_name_fault : ClassT → DeclT → NameAt → List Fault
-unknown_name_fault c d n =
-    if has_name (declared_names c) n.name then []
-    else record { code = code.Veen; case = 1; class = c.name; feature = feature_name d.names; place = n.place; about = n.name } ∷ []
+-- VEEN: a name that is called is not among those that are declared
+abbrev pub unknown_name_fault : ClassT → DeclT → NameAt → Fault
+unknown_name_fault c d n = record { code = code.Veen; case = 1; class = c.name; feature = feature_name d.names; place = n.place; about = n.name }
+
+abbrev pub unknown_in : ClassT → List NameAt → DeclT → NameAt → List Fault
+unknown_in c declared d n = if has_name declared n.name then [] else unknown_name_fault c d n ∷ []
+
+-- in one declaration
+abbrev pub unknown_of : ClassT → List NameAt → DeclT → List Fault
+unknown_of c declared d = flat_map (unknown_in c declared d) (called_in (body_of d.kind))
 
 abbrev pub unknown_name_faults : ClassT → List Fault
-unknown_name_faults c = flat_map (λ d. flat_map (unknown_name_fault c d) (called_in (body_of d.kind))) (declarations c)
+unknown_name_faults c = flat_map (unknown_of c (declared_names c)) (declarations c)
 
 -- the later rule is judged where the earlier one has no breach
 abbrev pub first_broken : List Fault → List Fault → List Fault
@@ -75,6 +82,10 @@ first_broken (f ∷ fs) later = f ∷ fs
 
 abbrev pub class_faults : Root → ClassT → List Fault
 class_faults root c = first_broken (root_class_faults root c) (first_broken (root_procedure_faults root c) (unknown_name_faults c))
+
+-- of a class of the form of plain classes
+abbrev pub tree_faults : ℕ → Root → ClassT → List Fault
+tree_faults file root c = if is_plain c then class_faults root c else yet_fault file ∷ []
 
 -- ---- all of it
 

@@ -1,2 +1,5 @@
 pub mod Faults
+pub mod Limits
+pub mod Mentions
 pub mod Plain
+pub mod Verdicts

@@ -2,6 +2,7 @@ pub mod ClassRules
 pub mod ExpressionRules
 pub mod Forms
 pub mod Goals
+pub mod Identifiers
 pub mod InstructionRules
 pub mod Is
 pub mod Kinds

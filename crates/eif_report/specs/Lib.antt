@@ -1,4 +1,3 @@
 pub mod OneReport
 pub mod Order
 pub mod Report
-pub mod Within

@@ -1,8 +1,7 @@
-ghost use Rattle.std.specs.Prelude.{◌≡◌, ◌++◌, length, IfOk, OnOk, decimal};
+ghost use Rattle.std.specs.Prelude.{◌≡◌, [], ◌++◌, IfOk, OnOk, decimal, slice_get, unwrap_or};
 ghost use Rattle.eif_base.specs.FileLists.{names_of};
 ghost use Rattle.eif_report.specs.OneReport.{OneReport};
 ghost use Rattle.eif_report.specs.Report.{name_or_dash, place_text, fault_line, fault_lines, faults_text, yes_text, verdict_text};
-ghost use Rattle.eif_report.specs.Within.{IsPlaceWithin, AreWithin, IsVerdictWithin};
 
 use crate::verdict::Verdict;
 use eif_base::{Fault, FaultList, FileList, Memory, NO_FILE, Name, Place};
@@ -10,7 +9,6 @@ use std::alloc::Global;
 
 /// The bytes of a report: a line for each fault and their count, or a line that says yes.
 pub fn report_text(alloc: Global, files: &FileList, verdict: &Verdict) -> Result<Vec<u8>, Memory>
-    requires { IsVerdictWithin (length files.now) verdict.now }
     ensures { IfOk result (λ v. v.items ≡ verdict_text (names_of files.now) verdict.now) }
 {
     match verdict {
@@ -30,7 +28,6 @@ fn yes_line(alloc: Global, count: u32) -> Result<Vec<u8>, Memory>
 }
 
 fn fault_report(alloc: Global, files: &FileList, list: &FaultList) -> Result<Vec<u8>, Memory>
-    requires { AreWithin (length files.now) list.now }
     ensures { IfOk result (λ v. v.items ≡ faults_text (names_of files.now) list.now) }
 {
     let mut text = lines_text(alloc, files, list)?;
@@ -41,7 +38,6 @@ fn fault_report(alloc: Global, files: &FileList, list: &FaultList) -> Result<Vec
 }
 
 fn lines_text(alloc: Global, files: &FileList, list: &FaultList) -> Result<Vec<u8>, Memory>
-    requires { AreWithin (length files.now) list.now }
     ensures { IfOk result (λ v. v.items ≡ fault_lines (names_of files.now) list.now) }
 {
     let mut text = Vec::new(alloc);
@@ -57,7 +53,6 @@ fn push_line(
     files: &FileList,
     fault: &Fault,
 ) -> Result<(), Memory>
-    requires { IsPlaceWithin (length files.now) fault.now.place }
     ensures { OnOk result (text.new.items ≡ text.old.items ++ fault_line (names_of files.now) fault.now) }
 {
     text.extend_from_slice(fault.code.text())?;
@@ -90,17 +85,26 @@ fn push_place(
     files: &FileList,
     place: Place,
 ) -> Result<(), Memory>
-    requires { IsPlaceWithin (length files.now) place }
     ensures { OnOk result (text.new.items ≡ text.old.items ++ place_text (names_of files.now) place) }
 {
     if place.file == NO_FILE {
         text.extend_from_slice(b"-:0:0")?;
-    } else {
-        text.extend_from_slice(files.name(place.file).as_bytes())?;
-        text.push(b':')?;
-        push_number(alloc, text, place.line as usize)?;
-        text.push(b':')?;
-        push_number(alloc, text, place.column as usize)?;
+        return Ok(());
+    }
+    push_file_name(text, files, place.file)?;
+    text.push(b':')?;
+    push_number(alloc, text, place.line as usize)?;
+    text.push(b':')?;
+    push_number(alloc, text, place.column as usize)?;
+    Ok(())
+}
+
+/// Adds the name of a file, or nothing where no file has that number.
+fn push_file_name(text: &mut Vec<u8>, files: &FileList, file: u32) -> Result<(), Memory>
+    ensures { OnOk result (text.new.items ≡ text.old.items ++ unwrap_or (slice_get (names_of files.now) file) []) }
+{
+    if file < files.count() {
+        text.extend_from_slice(files.name(file).as_bytes())?;
     }
     Ok(())
 }

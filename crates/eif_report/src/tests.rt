@@ -1,6 +1,3 @@
-ghost use Rattle.std.specs.Prelude.{IsTrue, length};
-ghost use Rattle.eif_report.specs.Within.{AreWithin};
-
 use crate::order::sort_faults;
 use crate::report::report_text;
 use crate::verdict::Verdict;
@@ -51,18 +48,6 @@ fn faults(alloc: Global, rows: &[Row]) -> Result<FaultList, Memory> {
     Ok(list)
 }
 
-fn are_within(list: &FaultList, files: &FileList) -> bool
-    ensures { IsTrue result → AreWithin (length files.now) list.now }
-{
-    'faults: for i in 0..list.count() {
-        let file = list.at(i).place.file;
-        if file != NO_FILE && file >= files.count() {
-            return false;
-        }
-    }
-    true
-}
-
 fn row_at(code: Code, case: u8, names: [&'static str; 3], at: [u32; 4]) -> Row {
     let [file, offset, line, column] = at;
     Row {
@@ -91,7 +76,6 @@ fn reported(rt: &impl Abort, alloc: Global, rows: &[Row]) -> Result<Vec<u8>, Mem
     let files = files(alloc)?;
     let mut list = faults(alloc, rows)?;
     sort_faults(&mut list, &files);
-    assert!(rt; are_within(&list, &files));
     report_text(alloc, &files, &Verdict::Faults(list))
 }
 

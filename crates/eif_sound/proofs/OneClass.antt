@@ -8,7 +8,7 @@ use Rattle.eif_tree.specs.declared.NameAt.{NameAt}
 use Rattle.eif_tree.specs.Tree.{DeclT, ClassT}
 use Rattle.eif_tree.specs.Parts.{has_name, declarations, declared_names, body_of, called_in}
 use Rattle.eif_grammar.specs.Plain.{Procedure, calls_of, procedure_tree}
-use Rattle.eif_check.specs.Faults.{unknown_name_fault}
+use Rattle.eif_check.specs.Faults.{unknown_in}
 use Rattle.eif_meaning.specs.System.{Origin, class_named, declaration_named, origin_of, bind_of, system_of}
 use Rattle.eif_sound.proofs.Tests.{bytes_same, finds, found_has, if_empty, append_empty}
 use Rattle.eif_sound.proofs.Lawful.{IsCall, AllFine, FineBody, Lawful}
@@ -17,7 +17,7 @@ use Rattle.eif_sound.proofs.Lawful.{IsCall, AllFine, FineBody, Lawful}
 pub record IsOwn (c : ClassT) (b : DeclT) : Type 0 where
   pub procedure : Procedure
   pub is : b ≡ procedure_tree procedure
-  pub known : flat_map (unknown_name_fault c b) (called_in (body_of b.kind)) ≡ []
+  pub known : flat_map (unknown_in c (declared_names c) b) (called_in (body_of b.kind)) ≡ []
 
 -- a body of class c, whose name is k, on an object of that class
 pub record Runs (c : ClassT) (k d text : List ℕ) (b : DeclT) : Type 0 where
@@ -25,15 +25,15 @@ pub record Runs (c : ClassT) (k d text : List ℕ) (b : DeclT) : Type 0 where
   pub of_text : k ≡ text
   pub own : IsOwn c b
 
-pub all_own : (c : ClassT) (ps : List Procedure) → AllByRecursion (λ b. flat_map (unknown_name_fault c b) (called_in (body_of b.kind)) ≡ []) (map procedure_tree ps ++ []) → AllByRecursion (IsOwn c) (map procedure_tree ps ++ [])
+pub all_own : (c : ClassT) (ps : List Procedure) → AllByRecursion (λ b. flat_map (unknown_in c (declared_names c) b) (called_in (body_of b.kind)) ≡ []) (map procedure_tree ps ++ []) → AllByRecursion (IsOwn c) (map procedure_tree ps ++ [])
 all_own c [] h = tt
 all_own c (p ∷ ps) h = (record { procedure = p; is = refl; known = h.0 }, all_own c ps h.1)
 
 -- calls of declared names are fine
-calls_fine : (c : ClassT) (b : DeclT) (known : List ℕ → Type 0) → ((x : List ℕ) → has_name (declared_names c) x ≡ true → known x) → (ns : List NameAt) → flat_map (unknown_name_fault c b) (called_in (calls_of ns)) ≡ [] → AllFine known (calls_of ns)
+calls_fine : (c : ClassT) (b : DeclT) (known : List ℕ → Type 0) → ((x : List ℕ) → has_name (declared_names c) x ≡ true → known x) → (ns : List NameAt) → flat_map (unknown_in c (declared_names c) b) (called_in (calls_of ns)) ≡ [] → AllFine known (calls_of ns)
 calls_fine c b known f [] h = tt
 calls_fine c b known f (n ∷ ns) h =
-    let e = append_empty (unknown_name_fault c b n) (flat_map (unknown_name_fault c b) (called_in (calls_of ns))) h in
+    let e = append_empty (unknown_in c (declared_names c) b n) (flat_map (unknown_in c (declared_names c) b) (called_in (calls_of ns))) h in
     (f n.name (if_empty (has_name (declared_names c) n.name) _ e.0), calls_fine c b known f ns e.1)
 
 -- class c of the texts is found by its name k
@@ -63,7 +63,7 @@ module _ (texts : List ClassT) (k : List ℕ) (c : ClassT) (found : class_named 
     own_fine : (b : DeclT) → IsOwn c b → FineBody (IsCall (system_of texts) (Runs c k) k k) b.arguments b.kind
     own_fine b o =
         subst (λ b. FineBody (IsCall (system_of texts) (Runs c k) k k) b.arguments b.kind) (sym o.is)
-        (calls_fine c b _ is_call o.procedure.calls (subst (λ g. flat_map (unknown_name_fault c b) (called_in (body_of g.kind)) ≡ []) o.is o.known))
+        (calls_fine c b _ is_call o.procedure.calls (subst (λ g. flat_map (unknown_in c (declared_names c) b) (called_in (body_of g.kind)) ≡ []) o.is o.known))
 
     pub lawful : Lawful (system_of texts) (Runs c k)
     lawful = record {

@@ -58,7 +58,7 @@ judged root c h =
 -- in a plain class a creator is declared
 pub creator_declared : (c : ClassT) → is_plain c ≡ true → (x : List ℕ) → has_name (creator_names c) x ≡ true → has_name (declared_names c) x ≡ true
 creator_declared c h x here =
-    name_passes (λ y. has_name (declared_names c) y) (creator_names c) x (and_right (are_distinct (declared_names c)) _ (and_left _ _ (and_left _ _ h))) here
+    name_passes (λ y. has_name (declared_names c) y) (creator_names c) x (and_right (are_distinct (declared_names c)) _ (and_left _ _ (and_left _ _ (and_left _ _ (and_left _ _ (and_left _ _ h)))))) here
 
 pub sound : Sound
 sound p root plain none n =

@@ -1,0 +1,4 @@
+pub mod Items
+pub mod Lexes
+pub mod Rows
+pub mod Spots

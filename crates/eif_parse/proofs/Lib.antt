@@ -1,0 +1,3 @@
+pub mod OneForm
+pub mod Steps
+pub mod Tokens

@@ -1,0 +1,3 @@
+pub mod OnePlain
+pub mod Parses
+pub mod Reads
