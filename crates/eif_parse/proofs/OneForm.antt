@@ -7,6 +7,7 @@ use Rattle.eif_grammar.specs.declared.terminal.Terminal.TheVariants as t
 use Rattle.eif_grammar.specs.Tokens.{Token}
 use Rattle.eif_grammar.specs.Spelling.{Spelling, ◌⨟◌, head, the, the_name}
 use Rattle.eif_grammar.specs.Plain.{Procedure, PlainClass, spells_names, spells_procedure, spells_procedures, spells_plain}
+use Rattle.eif_parse.specs.OnePlain.{OnePlain}
 
 -- ---- one token
 
@@ -129,3 +130,6 @@ plain_one c c' ts r r' (m1, class, (m2, name, (m3, create, (m4, creator, (m5, fe
     let b5 = after_the t.Feature (spells_procedures c'.procedures ⨟ the t.End) m4 m5 r' feature b4.1 in
     let b6 = after_procedures c.procedures c'.procedures m5 m6 r' procedures (not_identifier m6 r end) b5 in
     (same_class c c' (sym b2.0) (sym b4.0) (sym b6.0), the_one t.End m6 r r' end b6.1)
+
+pub one_plain : OnePlain
+one_plain tokens a b p q = (plain_one a b tokens [] [] p q).0

@@ -1,10 +1,10 @@
 -- What is missing where a part is missing, and what is found where one more is found.
-use Rattle.std.proofs.Common.{◌≡◌, ◌≢◌, ℕ, zero, suc, ◌<◌, ◌≤◌, length, arith, List, [], ◌∷◌, ◌++◌, map, Option, Some, None, Result, Ok, Err, IsErrAnd, drop, refl, sym, ◌∙◌, ap, subst}
+use Rattle.std.proofs.Common.{◌≡◌, ◌≢◌, ℕ, zero, suc, ◌<◌, ◌≤◌, length, arith, List, [], ◌∷◌, ◌++◌, map, Some, None, Result, Ok, Err, IsErrAnd, drop, refl, sym, ◌∙◌, ap, subst}
 use Rattle.std.proofs.lemmas.Result.{err_from_is_err_and}
 use Rattle.std.proofs.lemmas.List.{map-append, drop_all}
 use Rattle.eif_tree.specs.declared.ClassTree.{ClassTree}
 use Rattle.eif_tree.specs.declared.NameAt.{NameAt}
-use Rattle.eif_tree.specs.Tree.{Inss, and_ins}
+use Rattle.eif_tree.specs.Tree.{and_ins}
 use Rattle.eif_tree.specs.View.{inss_from}
 use Rattle.eif_grammar.specs.declared.terminal.Terminal.{Terminal}
 use Rattle.eif_grammar.specs.declared.terminal.Terminal.TheVariants as t

@@ -1,5 +1,5 @@
 -- What `parse_class` ensures. This version parses plain classes alone.
-use Rattle.std.specs.Prelude.{◌≡◌, ℕ, List, Option, Some, None, Result, Ok, Err}
+use Rattle.std.specs.Prelude.{◌≡◌, ℕ, List, Some, None, Result, Ok, Err}
 use Rattle.eif_base.specs.declared.Place.{Place}
 use Rattle.eif_tree.specs.declared.ClassTree.{ClassTree}
 use Rattle.eif_tree.specs.View.{class_view}

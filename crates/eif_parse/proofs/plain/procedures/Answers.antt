@@ -1,4 +1,4 @@
-use Rattle.std.proofs.Common.{◌++◌, ◌∷◌, [], drop, refl, sym, ◌∙◌, ap, subst, arith}
+use Rattle.std.proofs.Common.{◌++◌, ◌∷◌, [], drop}
 use Rattle.eif_tree.specs.View.{decl_view}
 use Rattle.eif_grammar.specs.Plain.{procedure_tree, spells_procedure}
 use Rattle.eif_grammar.specs.declared.terminal.Terminal.TheVariants as t
