@@ -1,0 +1,4 @@
+pub mod Completeness
+pub mod Forms
+pub mod Reports
+pub mod Soundness

@@ -1,0 +1,5 @@
+pub mod Answers
+pub mod Form
+pub mod Headline
+pub mod Judgement
+pub mod Words

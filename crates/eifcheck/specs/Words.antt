@@ -1,0 +1,15 @@
+-- What reading the words gives.
+use Rattle.std.specs.Prelude.{◌≡◌, Option, Some, None, Result, Ok, Err, string_bytes}
+use Rattle.eifcheck.specs.declared.words.Refusal.{Refusal}
+use Rattle.eifcheck.specs.declared.words.Refusal.TheVariants.{Usage, Memory}
+use Rattle.eifcheck.specs.declared.words.Words.{Words}
+use Rattle.eifcheck.specs.Form as form
+
+abbrev pub command_of : Words → form.Command
+command_of w = record { root = w.root; file = string_bytes w.file }
+
+-- the value that the words stand for, or the refusal exactly where they stand for none; want of memory is free
+abbrev pub Gives : {X A : Type 0} → (X → A) → Option A → Result X Refusal → Type 0
+Gives view meant (Ok x) = meant ≡ Some (view x)
+Gives view meant (Err Usage) = meant ≡ None
+Gives view meant (Err Memory) = Unit {0}
