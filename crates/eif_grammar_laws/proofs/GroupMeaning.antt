@@ -10,7 +10,8 @@ use Rattle.eif_grammar.specs.Goals
 use Rattle.eif_grammar.specs.ClassRules.{groups_from, class_rule}
 use Rattle.eif_grammar_laws.proofs.Readers.{Meanings, Means}
 use Rattle.eif_grammar_laws.proofs.ClassMeanings.{low, spells_groups_behind, ClassMeans}
-use Rattle.eif_grammar_laws.proofs.ClassLeads.{Leads, the_here, name_here, took, not_there, both_low}
+use Rattle.eif_grammar_laws.proofs.Meant.{the_here, name_here, not_there, took}
+use Rattle.eif_grammar_laws.proofs.ClassLeads.{Leads, both_low}
 
 -- ---- semicolons
 

@@ -7,6 +7,7 @@ pub mod ClassLaws
 pub mod ClassLeads
 pub mod ClassMeaning
 pub mod ClassMeanings
+pub mod ClassSound
 pub mod ClassSteps
 pub mod Clauses
 pub mod ExpressionBegins
