@@ -1,2 +1,7 @@
-//! The laws of the grammar: at most one tree, and where a reading refuses.
+//! The laws of the grammar, for all tokens: each form is read, what is read is the only tree, and
+//! where a reading is refused there is none. A law is the contract of a function that does nothing.
 #![tactic(auto)]
+
+mod laws;
+
+pub use laws::{class_laws, compound_laws, expression_laws, type_laws};
