@@ -44,3 +44,4 @@ pub mod Terminals
 pub mod TypeComplete
 pub mod TypeLaws
 pub mod TypeMeaning
+pub mod WorkedTexts

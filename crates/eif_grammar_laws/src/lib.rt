@@ -2,6 +2,8 @@
 //! where a reading is refused there is none. A law is the contract of a function that does nothing.
 #![tactic(auto)]
 
+mod examples;
 mod laws;
 
+pub use examples::worked_texts;
 pub use laws::{class_laws, compound_laws, expression_laws, type_laws};
