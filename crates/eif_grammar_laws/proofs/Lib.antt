@@ -1,4 +1,6 @@
 pub mod AssertionMeaning
+pub mod BrokenForms
+pub mod ByComputing
 pub mod CallMeaning
 pub mod CallStarts
 pub mod CallSteps

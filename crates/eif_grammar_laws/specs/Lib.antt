@@ -1,2 +1,3 @@
+pub mod BrokenForms
 pub mod Examples
 pub mod Laws

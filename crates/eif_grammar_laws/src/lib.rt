@@ -5,5 +5,5 @@
 mod examples;
 mod laws;
 
-pub use examples::worked_texts;
+pub use examples::{broken_forms, worked_texts};
 pub use laws::{class_laws, compound_laws, expression_laws, type_laws};
