@@ -7,7 +7,7 @@ use Rattle.eif_grammar.specs.declared.terminal.Terminal.{Terminal}
 use Rattle.eif_grammar.specs.declared.terminal.Terminal.TheVariants as t
 use Rattle.eif_grammar.specs.Tokens.{Token}
 use Rattle.eif_grammar.specs.Spelling
-use Rattle.eif_grammar.specs.Spelling.{head, ◌⨟◌, the, the_name}
+use Rattle.eif_grammar.specs.Spelling.{head, the, the_name}
 use Rattle.eif_grammar.specs.SpelledTypes.{spells_type}
 use Rattle.eif_grammar.specs.SpelledClasses as spelled
 use Rattle.eif_grammar.specs.Forms.{begins_routine}

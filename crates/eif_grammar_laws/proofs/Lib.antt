@@ -22,6 +22,7 @@ pub mod FeatureComplete
 pub mod FeatureMeaning
 pub mod GroupComplete
 pub mod GroupMeaning
+pub mod HighOperands
 pub mod InstructionComplete
 pub mod InstructionLaws
 pub mod InstructionMeaning

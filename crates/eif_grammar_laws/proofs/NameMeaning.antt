@@ -6,7 +6,7 @@ use Rattle.eif_tree.specs.Tree.{ClientsT, ExportT}
 use Rattle.eif_grammar.specs.declared.terminal.Terminal.TheVariants as t
 use Rattle.eif_grammar.specs.Tokens.{Token}
 use Rattle.eif_grammar.specs.Spelling
-use Rattle.eif_grammar.specs.Spelling.{head, ◌⨟◌, one, the, the_name, semicolons}
+use Rattle.eif_grammar.specs.Spelling.{head, the}
 use Rattle.eif_grammar.specs.SpelledClasses as spelled
 use Rattle.eif_grammar.specs.ClassRules.{class_rule}
 use Rattle.eif_grammar.specs.Goals

@@ -8,10 +8,10 @@ use Rattle.eif_tree.specs.Height.{type_height, highest}
 use Rattle.eif_grammar.specs.declared.terminal.Terminal.TheVariants as t
 use Rattle.eif_grammar.specs.Tokens.{Token}
 use Rattle.eif_grammar.specs.Spelling
-use Rattle.eif_grammar.specs.Spelling.{Spelling, head, ◌⨟◌, never, one, the, semicolons}
+use Rattle.eif_grammar.specs.Spelling.{Spelling, head, ◌⨟◌, never, the, semicolons}
 use Rattle.eif_grammar.specs.SpelledTypes.{spells_class_type}
 use Rattle.eif_grammar.specs.SpelledClasses as spelled
-use Rattle.eif_grammar.specs.SpelledClasses.{Clause, rename_clause, export_clause, undefine_clause, redefine_clause, select_clause, clause_length, spells_clause, IsOrderOf}
+use Rattle.eif_grammar.specs.SpelledClasses.{Clause, rename_clause, export_clause, undefine_clause, redefine_clause, select_clause, clause_length, spells_clause}
 use Rattle.eif_grammar.specs.Forms.{begins_clause}
 use Rattle.eif_grammar.specs.Goals
 use Rattle.eif_grammar.specs.Goals.{class_goal}

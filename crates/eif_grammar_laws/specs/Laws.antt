@@ -1,6 +1,6 @@
 -- What the readings of the grammar say of its trees, for all tokens.
 use Rattle.std.specs.Prelude.{◌≡◌, ◌≢◌, ◌≤◌, ℕ, List, []}
-use Rattle.eif_tree.specs.Tree.{TypeT, Ex, Inss, ClassT}
+use Rattle.eif_tree.specs.Tree.{ClassT}
 use Rattle.eif_tree.specs.Height.{class_height}
 use Rattle.eif_grammar.specs.Tokens.{Token}
 use Rattle.eif_grammar.specs.SpelledClasses.{spells_class}
