@@ -39,7 +39,7 @@ abbrev pub pluses : ℕ → Spelling
 pluses zero = nothing
 pluses (suc n) = the t.Plus ⨟ the t.Integer ⨟ pluses n
 
--- a sum of as many integers as its room is high is read up to the `+` behind it, which is refused
+-- A sum of as many integers as its room is high is read up to the `+` behind it, which is refused: in a room of 400 the 400th.
 abbrev pub LongSum : Type 0
 LongSum = (more : ℕ) (tokens left : List Token) → (the t.Integer ⨟ pluses more) tokens left → head left ≡ t.Plus
     → Calls (expression_goal (expression (more + 1) 1)) tokens (refused left)

@@ -1,6 +1,6 @@
 ghost use Rattle.eif_grammar_laws.specs.Laws.{TypeLaws, ExpressionLaws, CompoundLaws, ClassLaws};
 
-/// Types, in every room: each type that tokens begin with by the longest reading is read. What is
+/// Types, in every room from 1 on: each type that tokens begin with by the longest reading is read. What is
 /// read is such a type, and the only one of all tokens that agree with these up to and with the
 /// first that is left. Where the reading is refused, no tokens that agree with these up to and with
 /// the first that is left begin with a type.
