@@ -1,23 +1,24 @@
 -- A rule for assertions finds no more than its goal means.
-use Rattle.std.proofs.Common.{◌≡◌, ◌≢◌, ℕ, max, Bool, Option, List, [], ◌∷◌, refl, sym, subst, arith, inl, inr}
+use Rattle.std.proofs.Common.{◌≡◌, ◌≢◌, ℕ, max, Bool, Option, List, [], ◌∷◌, refl, subst, arith, inl, inr}
 use Rattle.eif_tree.specs.Tree.{Ex, Exs}
 use Rattle.eif_grammar.specs.declared.terminal.Terminal.TheVariants as t
 use Rattle.eif_grammar.specs.Tokens.{Token}
 use Rattle.eif_grammar.specs.Forms.{binds, begins_expression}
-use Rattle.eif_grammar.specs.Spelling.{head, semicolons}
+use Rattle.eif_grammar.specs.Spelling.{head, the, semicolons}
 use Rattle.eif_grammar.specs.SpelledInstructions.{begins_tag}
 use Rattle.eif_grammar.specs.Goals.{semis, assertions, assertion, invariants, variant}
 use Rattle.eif_grammar.specs.InstructionRules.{assertion_by, assertions_by, instruction_rule}
 use Rattle.eif_grammar_laws.proofs.Readers.{Meanings, Means}
 use Rattle.eif_grammar_laws.proofs.Meanings.{InstructionMeans, level_before}
-use Rattle.eif_grammar_laws.proofs.Meant.{Meant, seen, the_here, name_here, tested_is, tested_other, room_below}
+use Rattle.eif_grammar_laws.proofs.Meant.{Meant, seen, the_here, name_here, tested_is, tested_other, took, room_below}
 use Rattle.eif_grammar_laws.proofs.Levels.{spells_undotted}
 
 -- ---- semicolons
 
 -- a `;` and those behind it
-pub semicolon_more : {w : Token} {ts more : List Token} (rest : List Token) → (w.terminal ≡ t.Semicolon) × (ts ≡ w ∷ more) → semicolons more rest → semicolons ts rest
-semicolon_more rest (found, eq) s = subst (λ l. semicolons l rest) (sym eq) (inl (found, s))
+pub one_semicolon : (ts mid rest : List Token) → the t.Semicolon ts mid → semicolons mid rest → semicolons ts rest
+one_semicolon [] mid rest c s = absurd c
+one_semicolon (w ∷ ts) mid rest (found, e) s = inl (found, rw e s)
 
 pub no_semicolon : (ts : List Token) → head ts ≢ t.Semicolon → semicolons ts ts
 no_semicolon [] apart = refl
@@ -37,7 +38,7 @@ no_colon w ts more eq apart b = apart (subst begins_tag eq b).1
 module _ (M : Meanings) (meant : Meant M) where
   pub form_semis : (u : Unit {0}) (ts rest : List Token) → Means M (instruction_rule semis) u ts rest → InstructionMeans semis u ts rest
   form_semis u ts rest (y, there, inl (same, (w, more, eq, (u', mid, m, (it, end))))) =
-      rw (← end) (semicolon_more mid (seen (tested_is ts t.Semicolon y there same) eq) (meant.instructions m))
+      rw (← end) (one_semicolon ts more mid (took t.Semicolon there same eq) (meant.instructions m))
   form_semis u ts rest (y, there, inr (other, (it, end))) = rw (← end) (no_semicolon ts (tested_other ts t.Semicolon y there other).0)
 
   -- ---- one assertion

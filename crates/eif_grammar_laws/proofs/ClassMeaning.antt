@@ -8,7 +8,8 @@ use Rattle.eif_grammar.specs.Goals
 use Rattle.eif_grammar.specs.ClassRules.{class_from, class_rule}
 use Rattle.eif_grammar_laws.proofs.Readers.{Meanings, Means}
 use Rattle.eif_grammar_laws.proofs.ClassMeanings.{ClassMeans}
-use Rattle.eif_grammar_laws.proofs.ClassLeads.{Leads, the_here, name_here, took, not_there, both_low}
+use Rattle.eif_grammar_laws.proofs.Meant.{the_here, name_here, not_there, took}
+use Rattle.eif_grammar_laws.proofs.ClassLeads.{Leads, both_low}
 use Rattle.eif_grammar_laws.proofs.NoteMeaning.{form_notes, form_note_entries, form_note_item, form_more_note_items, form_literal, form_obsolete}
 use Rattle.eif_grammar_laws.proofs.NameMeaning.{form_names, form_more_names, form_colon_names, form_clients, form_rename, form_renames, form_more_renames, form_export, form_exports, form_more_exports}
 use Rattle.eif_grammar_laws.proofs.ParentMeaning.{form_clauses, form_more_clauses, form_parent, form_parents, form_more_parents}

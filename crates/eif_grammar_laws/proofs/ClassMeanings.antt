@@ -6,7 +6,7 @@ use Rattle.eif_tree.specs.Height.{type_height, written_height, heights, highest,
 use Rattle.eif_grammar.specs.declared.terminal.Terminal.TheVariants as t
 use Rattle.eif_grammar.specs.Tokens.{Token}
 use Rattle.eif_grammar.specs.Spelling
-use Rattle.eif_grammar.specs.Spelling.{Spelling, ◌⨟◌, given, never, the, maybe, semicolons}
+use Rattle.eif_grammar.specs.Spelling.{Spelling, ◌⨟◌, never, the, maybe, semicolons}
 use Rattle.eif_grammar.specs.SpelledInstructions.{assertions_behind}
 use Rattle.eif_grammar.specs.SpelledClasses as spelled
 use Rattle.eif_grammar.specs.SpelledClasses.{Clause, rename_clause, export_clause, undefine_clause, redefine_clause, select_clause, clause_length, count_of}

@@ -7,15 +7,16 @@ use Rattle.eif_grammar.specs.declared.terminal.Terminal.{Terminal}
 use Rattle.eif_grammar.specs.declared.terminal.Terminal.TheVariants as t
 use Rattle.eif_grammar.specs.Tokens.{Token}
 use Rattle.eif_grammar.specs.Spelling
-use Rattle.eif_grammar.specs.Spelling.{head, nothing, one, the, the_name, semicolons}
+use Rattle.eif_grammar.specs.Spelling.{head, nothing, one, the_name, semicolons}
 use Rattle.eif_grammar.specs.SpelledTypes.{spells_type, spells_class_type}
 use Rattle.eif_grammar.specs.SpelledInstructions.{spells_assertions, assertions_behind, spells_compound}
 use Rattle.eif_grammar.specs.Goals
 use Rattle.eif_grammar.specs.Goals.{Goal, Found, type_goal, instruction_goal, token}
-use Rattle.eif_grammar.specs.Reader.{Reader, done, next, call, on, expect, name_of}
+use Rattle.eif_grammar.specs.Reader.{Reader, done, next, call, name_of}
 use Rattle.eif_grammar.specs.Outcomes.{Outcome, got, Runs, Calls}
 use Rattle.eif_grammar_laws.proofs.Readers.{called, taken, ended}
-use Rattle.eif_grammar_laws.proofs.Terminals.{on_found, token_found, one_is}
+use Rattle.eif_grammar_laws.proofs.Terminals.{token_found, one_is}
+use Rattle.eif_grammar_laws.proofs.Taken.{head_name}
 
 -- what is spelled of the other kinds is found
 pub record PartsFound : Type 0 where
@@ -32,17 +33,9 @@ pub record PartsFound : Type 0 where
 
 -- ---- how a spelling begins
 
-pub the_head : (x : Terminal) (ts rest : List Token) → the x ts rest → head ts ≡ x
-the_head x [] rest s = absurd s
-the_head x (n ∷ ts) rest (found, e) = found
-
-pub name_head : (n : NameAt) (ts rest : List Token) → the_name n ts rest → head ts ≡ t.Identifier
-name_head n [] rest s = absurd s
-name_head n (word ∷ ts) rest ((is_name, place, name), e) = is_name
-
 pub names_head : (ns : List NameAt) (ts rest : List Token) → Spelling.names ns ts rest → head ts ≡ t.Identifier
 names_head [] ts rest s = absurd s
-names_head (n ∷ ns) ts rest (mid, name, s) = name_head n ts mid name
+names_head (n ∷ ns) ts rest (mid, name, s) = head_name n.place n.name ts mid name
 
 -- ---- ends of rules
 
@@ -70,13 +63,6 @@ calls_one x P {k} ts mid {o} is s h =
     let n = one_is P ts mid s in
     subst (λ l. Runs (call (token x) k) l o) (sym n.1) (called (token_found (is n.0 n.2)) (h n.0 n.2))
 
-pub expects : {A : Type 0} (x : Terminal) {r : Reader A} (ts mid : List Token) {o : Outcome A} → the x ts mid → Runs r mid o → Runs (expect x r) ts o
-expects x ts mid s h = calls_one x (λ n. n.terminal ≡ x) ts mid (λ n p. p) s (λ n p. h)
-
 pub named : {A : Type 0} (n : NameAt) {k : Token → Reader A} (ts mid : List Token) {o : Outcome A} → the_name n ts mid
     → ((word : Token) → name_of word ≡ n → Runs (k word) mid o) → Runs (call (token t.Identifier) k) ts o
 named n ts mid s h = calls_one t.Identifier _ ts mid (λ word p. p.0) s (λ word p. h word (rw (p.1, p.2) refl))
-
-pub on_the : {A : Type 0} (x : Terminal) {k : Token → Reader A} {other : Reader A} (ts mid : List Token) {o : Outcome A} → the x ts mid
-    → ((n : Token) → n.terminal ≡ x → Runs (k n) mid o) → Runs (on x (next k) other) ts o
-on_the x ts mid s h = on_found (the_head x ts mid s) (takes (λ n. n.terminal ≡ x) ts mid s h)

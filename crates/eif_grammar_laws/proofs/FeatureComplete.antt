@@ -7,7 +7,7 @@ use Rattle.eif_grammar.specs.declared.terminal.Terminal.{Terminal}
 use Rattle.eif_grammar.specs.declared.terminal.Terminal.TheVariants as t
 use Rattle.eif_grammar.specs.Tokens.{Token}
 use Rattle.eif_grammar.specs.Spelling
-use Rattle.eif_grammar.specs.Spelling.{head, the, the_name, maybe, semicolons}
+use Rattle.eif_grammar.specs.Spelling.{head, the, the_name, maybe}
 use Rattle.eif_grammar.specs.SpelledTypes.{spells_type}
 use Rattle.eif_grammar.specs.SpelledInstructions.{assertions_behind}
 use Rattle.eif_grammar.specs.SpelledClasses as spelled
@@ -21,7 +21,8 @@ use Rattle.eif_grammar.specs.Outcomes.{got, Runs, Calls}
 use Rattle.eif_grammar_laws.proofs.Readers.{by_rule, called, looked, forked, forked_not, ended}
 use Rattle.eif_grammar_laws.proofs.Terminals.{on_found, on_other}
 use Rattle.eif_grammar_laws.proofs.ClassMeanings.{rest_height, spells_routine_rest, RoutineOf}
-use Rattle.eif_grammar_laws.proofs.ClassSteps.{PartsFound, the_head, name_head, names_head, last, ended_as, ended_at, ended_both, expects, named, on_the}
+use Rattle.eif_grammar_laws.proofs.Taken.{head_the, head_name, expect_the, on_the}
+use Rattle.eif_grammar_laws.proofs.ClassSteps.{PartsFound, names_head, last, ended_as, ended_at, ended_both, named}
 use Rattle.eif_grammar_laws.proofs.NoteComplete.{literal_found, obsolete_found}
 use Rattle.eif_grammar_laws.proofs.NameComplete.{colon_names_found, maybe_clients_run}
 use Rattle.eif_grammar_laws.proofs.GroupComplete.{formal_arguments_found, locals_found, result_type_found}
@@ -29,13 +30,13 @@ use Rattle.eif_grammar_laws.proofs.GroupComplete.{formal_arguments_found, locals
 -- ---- how routines begin, behind their names, arguments and types
 
 locals_head : (ls : List GroupT) (ts m1 m2 : List Token) → spelled.spells_locals ls ts m1 → the t.Do m1 m2 → (head ts ≡ t.Local) ⊎ (head ts ≡ t.Do)
-locals_head ls ts m1 m2 (inl (mid, word, s)) do' = inl (the_head t.Local ts mid word)
-locals_head ls ts m1 m2 (inr (m, (empty, e), (none, e'))) do' = inr (ap head (e ∙ e') ∙ the_head t.Do m1 m2 do')
+locals_head ls ts m1 m2 (inl (mid, word, s)) do' = inl (head_the t.Local ts mid word)
+locals_head ls ts m1 m2 (inr (m, (empty, e), (none, e'))) do' = inr (ap head (e ∙ e') ∙ head_the t.Do m1 m2 do')
 
 body_head : (k : KindT) (ts rest : List Token) → spelled.spells_body k ts rest → begins_routine (head ts) ≡ true
 body_head attribute ts rest s = absurd s
 body_head (constant x) ts rest s = absurd s
-body_head deferred_body ts rest s = ap begins_routine (the_head t.Deferred ts rest s)
+body_head deferred_body ts rest s = ap begins_routine (head_the t.Deferred ts rest s)
 body_head (routine ls is) ts rest (m1, locals, (m2, do', s)) = by_cases (locals_head ls ts m1 m2 locals do')
   where
     by_cases : (head ts ≡ t.Local) ⊎ (head ts ≡ t.Do) → begins_routine (head ts) ≡ true
@@ -44,11 +45,11 @@ body_head (routine ls is) ts rest (m1, locals, (m2, do', s)) = by_cases (locals_
 
 conditions_head : (second : Terminal) (es : Exs) (ts mid : List Token) → assertions_behind t.Require (maybe second) es ts mid → begins_routine (head mid) ≡ true
     → begins_routine (head ts) ≡ true
-conditions_head second es ts mid (inl (m, word, s)) behind = ap begins_routine (the_head t.Require ts m word)
+conditions_head second es ts mid (inl (m, word, s)) behind = ap begins_routine (head_the t.Require ts m word)
 conditions_head second es ts mid (inr (m, (empty, e), (none, e'))) behind = ap (λ l. begins_routine (head l)) (e ∙ e') ∙ behind
 
 obsolete_head : (ts mid : List Token) → spelled.obsolete ts mid → begins_routine (head mid) ≡ true → begins_routine (head ts) ≡ true
-obsolete_head ts mid (inl (m, word, s)) behind = ap begins_routine (the_head t.Obsolete ts m word)
+obsolete_head ts mid (inl (m, word, s)) behind = ap begins_routine (head_the t.Obsolete ts m word)
 obsolete_head ts mid (inr (none, e)) behind = ap (λ l. begins_routine (head l)) e ∙ behind
 
 pub routine_rest_head : (d : DeclT) (ts rest : List Token) → spells_routine_rest d ts rest → begins_routine (head ts) ≡ true
@@ -67,7 +68,7 @@ declaration_head d ts rest (inr s) = routine_head d.names s
   where
     routine_head : (ns : List NameAt) → spelled.routine_of d ns ts rest → head ts ≡ t.Identifier
     routine_head [] s' = absurd s'
-    routine_head (n ∷ []) (m1, name, s') = name_head n ts m1 name
+    routine_head (n ∷ []) (m1, name, s') = head_name n.place n.name ts m1 name
     routine_head (n ∷ m ∷ ns) s' = absurd s'
 
 -- ---- values of attributes
@@ -79,14 +80,14 @@ value_run ns ty attribute ts rest (mid, (none, e), s) = on_other none (ended_at 
     no_routine_end [] m r s' = s'
     no_routine_end (n ∷ []) m r s' = s'.1
     no_routine_end (n ∷ n' ∷ ns') m r s' = s'
-value_run ns ty (constant x) ts rest (mid, equal, s) = on_the t.Equal ts mid equal (λ n e. called (literal_found x mid rest s) ended)
+value_run ns ty (constant x) ts rest (mid, equal, s) = on_the t.Equal ts mid equal (λ n. called (literal_found x mid rest s) ended)
 value_run ns ty deferred_body ts rest s = absurd s
 value_run ns ty (routine ls is) ts rest s = absurd s
 
 -- behind one name and its type no routine begins
 no_routine_here : (n : NameAt) (k : KindT) (ts rest : List Token) → spelled.spells_value (n ∷ []) k ts rest → begins_routine (head ts) ≡ false
 no_routine_here n attribute ts rest (mid, (none, e), (begins, e')) = ap (λ l. begins_routine (head l)) e ∙ begins
-no_routine_here n (constant x) ts rest (mid, equal, s) = ap begins_routine (the_head t.Equal ts mid equal)
+no_routine_here n (constant x) ts rest (mid, equal, s) = ap begins_routine (head_the t.Equal ts mid equal)
 no_routine_here n deferred_body ts rest s = absurd s
 no_routine_here n (routine ls is) ts rest s = absurd s
 
@@ -103,20 +104,20 @@ module _ (found : PartsFound) where
   pub conditions_found : (first second : Terminal) (es : Exs) (ts rest : List Token) → assertions_behind first (maybe second) es ts rest → heights es ≤ most_height
       → Calls (class_goal (Goals.conditions first second)) ts (got es rest)
   conditions_found first second es ts rest (inl (m1, word, (m2, inl word', s))) low =
-      by_rule (on_the first ts m1 word (λ n e. on_the second m1 m2 word' (λ n' e'. last (found.assertions_found es most_height m2 rest s low))))
+      by_rule (on_the first ts m1 word (λ n. on_the second m1 m2 word' (λ n'. last (found.assertions_found es most_height m2 rest s low))))
   conditions_found first second es ts rest (inl (m1, word, (m2, inr (none, e'), s))) low =
       let behind = subst (λ l. Calls (Goals.instruction_goal (Goals.assertions most_height)) l (got es rest)) (sym e') (found.assertions_found es most_height m2 rest s low) in
-      by_rule (on_the first ts m1 word (λ n e. on_other none (last behind)))
+      by_rule (on_the first ts m1 word (λ n. on_other none (last behind)))
   conditions_found first second es ts rest (inr (m, (empty, e), (none, e'))) low =
       by_rule (on_other (subst (λ l. head l ≢ first) (sym e) none) (ended_both (sym empty) (e ∙ e')))
 
   pub body_found : (k : KindT) (ts rest : List Token) → spelled.spells_body k ts rest → kind_height k ≤ most_height → Calls (class_goal Goals.body) ts (got k rest)
   body_found attribute ts rest s low = absurd s
   body_found (constant x) ts rest s low = absurd s
-  body_found deferred_body ts rest s low = by_rule (on_the t.Deferred ts rest s (λ n e. ended))
+  body_found deferred_body ts rest s low = by_rule (on_the t.Deferred ts rest s (λ n. ended))
   body_found (routine ls is) ts rest (m1, locals, (m2, do', s)) low =
       by_rule (on_other (not_deferred (locals_head ls ts m1 m2 locals do')) (called (locals_found found ls ts m1 locals (omega arith))
-      (expects t.Do m1 m2 do' (called (found.compound_found is most_height m2 rest s (omega arith)) ended))))
+      (expect_the m1 m2 do' (called (found.compound_found is most_height m2 rest s (omega arith)) ended))))
     where
       not_deferred : (head ts ≡ t.Local) ⊎ (head ts ≡ t.Do) → head ts ≢ t.Deferred
       not_deferred (inl e) = λ f. cc
@@ -126,7 +127,7 @@ module _ (found : PartsFound) where
       → rest_height d ≤ most_height → Calls (class_goal (Goals.routine_rest n args ty)) ts (got d rest)
   routine_rest_found n args ty d ts rest of (m1, old, (m2, pre, (m3, body, (m4, post, word)))) low =
       by_rule (called (obsolete_found ts m1 old) (called (conditions_found t.Require t.Else d.preconditions m1 m2 pre (omega arith)) (called (body_found d.kind m2 m3 body (omega arith))
-      (called (conditions_found t.Ensure t.Then d.postconditions m3 m4 post (omega arith)) (expects t.End m4 rest word
+      (called (conditions_found t.Ensure t.Then d.postconditions m3 m4 post (omega arith)) (expect_the m4 rest word
       (ended_as (rw (← of.name, ← of.formal_arguments, ← of.result_type) refl)))))))
 
   -- ---- declarations
@@ -148,12 +149,12 @@ module _ (found : PartsFound) where
       routine_run n [] None d ts m1 m2 rest of (formal_arguments_found found [] ts m1 (none, e) low1) (result_type_found found None m1 m2 (none', e') low2) s low no_comma no_colon
   routine_by n [] (Some ty) d ts m1 m2 rest of (none, e) (m, colon, typed') s low1 low2 low =
       let here : the t.Colon ts m = subst (λ l. the t.Colon l m) (sym e) colon in
-      let first = the_head t.Colon ts m here in
+      let first = head_the t.Colon ts m here in
       let no_comma : head ts ≢ t.Comma = λ f. cc in
-      on_other no_comma (on_the t.Colon ts m here (λ c q. called (found.type_found ty most_height m m2 typed' low2)
+      on_other no_comma (on_the t.Colon ts m here (λ c. called (found.type_found ty most_height m m2 typed' low2)
       (looked (forked (routine_rest_head d m2 rest s) (last (routine_rest_found n [] (Some ty) d m2 rest of s low))))))
   routine_by n (g ∷ gs) ty d ts m1 m2 rest of arguments result s low1 low2 low =
-      let first = the_head t.OpenParenthesis ts arguments.0 arguments.1 in
+      let first = head_the t.OpenParenthesis ts arguments.0 arguments.1 in
       let no_comma : head ts ≢ t.Comma = λ f. cc in
       let no_colon : head ts ≢ t.Colon = λ f. cc in
       routine_run n (g ∷ gs) ty d ts m1 m2 rest of (formal_arguments_found found (g ∷ gs) ts m1 arguments low1) (result_type_found found ty m1 m2 result low2) s low no_comma no_colon
@@ -172,10 +173,10 @@ module _ (found : PartsFound) where
   attributes_declared [] ty k ts m1 m2 m3 rest s colon typed' low value = absurd s
   attributes_declared (n ∷ []) ty k ts m1 m2 m3 rest (m, name, (none, e)) colon typed' low value =
       let here : the t.Colon m m2 = subst (λ l. the t.Colon l m2) (sym e) colon in
-      declared_found n (attributes (n ∷ []) ty k) ts m rest name (on_other none (on_the t.Colon m m2 here (λ c q. called (found.type_found ty most_height m2 m3 typed' low)
+      declared_found n (attributes (n ∷ []) ty k) ts m rest name (on_other none (on_the t.Colon m m2 here (λ c. called (found.type_found ty most_height m2 m3 typed' low)
       (looked (forked_not (no_routine_here n k m3 rest value) (value_run (n ∷ []) ty k m3 rest value))))))
   attributes_declared (n ∷ n' ∷ ns) ty k ts m1 m2 m3 rest (m, name, (m', comma, (m'', name', more))) colon typed' low value =
-      declared_found n (attributes (n ∷ n' ∷ ns) ty k) ts m rest name (on_the t.Comma m m' comma (λ c q. named n' m' m'' name' (λ word e.
+      declared_found n (attributes (n ∷ n' ∷ ns) ty k) ts m rest name (on_the t.Comma m m' comma (λ c. named n' m' m'' name' (λ word e.
       called (colon_names_found ns m'' m1 m2 more colon) (called (found.type_found ty most_height m2 m3 typed' low)
       (subst (λ x. Runs (value_of (n ∷ x ∷ ns) ty) m3 (got (attributes (n ∷ n' ∷ ns) ty k) rest)) (sym e) (value_run (n ∷ n' ∷ ns) ty k m3 rest value))))))
 
@@ -203,5 +204,5 @@ module _ (found : PartsFound) where
       → Calls (class_goal Goals.features) ts (got fs rest)
   features_found [] ts rest (none, e) low = by_rule (on_other none (ended_at e))
   features_found (f ∷ fs) ts rest (m1, word, (m2, clients, (m3, declarations, s))) low =
-      by_rule (on_the t.Feature ts m1 word (λ n e. maybe_clients_run f.clients features_of m1 m2 clients
+      by_rule (on_the t.Feature ts m1 word (λ n. maybe_clients_run f.clients features_of m1 m2 clients
       (called (declarations_found f.decls m2 m3 declarations (omega arith)) (called (features_found fs m3 rest s (omega arith)) ended))))

@@ -7,7 +7,7 @@ use Rattle.eif_grammar.specs.declared.terminal.Terminal.{Terminal}
 use Rattle.eif_grammar.specs.declared.terminal.Terminal.TheVariants as t
 use Rattle.eif_grammar.specs.Tokens.{Token}
 use Rattle.eif_grammar.specs.Spelling
-use Rattle.eif_grammar.specs.Spelling.{head, ◌⨟◌, the, the_name}
+use Rattle.eif_grammar.specs.Spelling.{head, the, the_name}
 use Rattle.eif_grammar.specs.SpelledTypes.{spells_type}
 use Rattle.eif_grammar.specs.SpelledClasses as spelled
 use Rattle.eif_grammar.specs.Forms.{begins_routine}
@@ -15,7 +15,8 @@ use Rattle.eif_grammar.specs.Goals
 use Rattle.eif_grammar.specs.ClassRules.{attributes, value_of, class_rule}
 use Rattle.eif_grammar_laws.proofs.Readers.{Meanings, Means}
 use Rattle.eif_grammar_laws.proofs.ClassMeanings.{low, rest_height, spells_routine_rest, RoutineOf, ClassMeans}
-use Rattle.eif_grammar_laws.proofs.ClassLeads.{Leads, the_here, name_here, seen, took, not_there, both_low}
+use Rattle.eif_grammar_laws.proofs.Meant.{the_here, name_here, tested_is, not_there, took}
+use Rattle.eif_grammar_laws.proofs.ClassLeads.{Leads, both_low}
 
 -- ---- declarations of attributes and of routines
 
@@ -84,7 +85,7 @@ module _ (M : Meanings) (lead : Leads M) where
   form_declaration d ts rest (n, m1, mn, (y, found, inr (other, (z, seen', inl (same, (c, more, eq, (ty, m2, mt, (x, looked, inl (begins, (d', m3, mr, (it, end))))))))))) =
       let behind = lead.classes mr in
       let typed = lead.types mt (omega arith) in
-      let colon : head m1 ≡ t.Colon = seen t.Colon seen' same in
+      let colon : head m1 ≡ t.Colon = tested_is m1 t.Colon z seen' same in
       rw (← it, ← end) (routine_low _ [] (Some ty) d' ts m1 m1 m2 m3 (name_here (lead.tokens mn)) ((λ q. cc, refl), omega arith)
       ((more, took t.Colon seen' same eq, typed.0), typed.1) behind.0 behind.1)
   form_declaration d ts rest (n, m1, mn, (y, found, inr (other, (z, seen', inl (same, (c, more, eq, (ty, m2, mt, (x, looked, inr (none, mv))))))))) =

@@ -6,7 +6,7 @@ use Rattle.eif_tree.specs.Height.{type_height, written_height, highest, group_he
 use Rattle.eif_grammar.specs.declared.terminal.Terminal.TheVariants as t
 use Rattle.eif_grammar.specs.Tokens.{Token}
 use Rattle.eif_grammar.specs.Spelling
-use Rattle.eif_grammar.specs.Spelling.{head, the, name_at, semicolons}
+use Rattle.eif_grammar.specs.Spelling.{head, the, semicolons}
 use Rattle.eif_grammar.specs.SpelledTypes.{spells_type}
 use Rattle.eif_grammar.specs.SpelledClasses as spelled
 use Rattle.eif_grammar.specs.Goals
@@ -17,7 +17,8 @@ use Rattle.eif_grammar.specs.Outcomes.{got, Runs, Calls}
 use Rattle.eif_grammar_laws.proofs.Readers.{by_rule, called, ended}
 use Rattle.eif_grammar_laws.proofs.Terminals.{on_found, on_other}
 use Rattle.eif_grammar_laws.proofs.ClassMeanings.{formal_height}
-use Rattle.eif_grammar_laws.proofs.ClassSteps.{PartsFound, the_head, names_head, last, ended_as, ended_at, ended_both, expects, named, on_the}
+use Rattle.eif_grammar_laws.proofs.Taken.{head_the, expect_the, on_the}
+use Rattle.eif_grammar_laws.proofs.ClassSteps.{PartsFound, names_head, last, ended_as, ended_at, ended_both, named}
 use Rattle.eif_grammar_laws.proofs.NameComplete.{names_found, colon_names_found, maybe_clients_run}
 
 -- ---- how groups begin
@@ -30,21 +31,21 @@ group_head g ts rest (mid, names, s) = names_head g.names ts mid names
 pub creators_found : (cs : List CreatorsT) (ts rest : List Token) → spelled.spells_creators cs ts rest → Calls (class_goal Goals.creators) ts (got cs rest)
 creators_found [] ts rest (none, e) = by_rule (on_other none (ended_at e))
 creators_found (c ∷ cs) ts rest (m1, word, (m2, clients, (m3, names, s))) =
-    by_rule (on_the t.Create ts m1 word (λ n e. maybe_clients_run c.clients creators_of m1 m2 clients
+    by_rule (on_the t.Create ts m1 word (λ n. maybe_clients_run c.clients creators_of m1 m2 clients
     (called (names_found c.names m2 m3 names) (called (creators_found cs m3 rest s) ended))))
 
 -- many `;`, and then groups
 groups_behind_found : (gs : List GroupT) (ts mid rest : List Token) → semicolons ts mid → head mid ≡ t.Identifier → Runs groups_from mid (got gs rest)
     → Calls (class_goal Goals.groups_behind) ts (got gs rest)
 groups_behind_found gs [] mid rest e name r = let none = ap head e in cc
-groups_behind_found gs (n ∷ ts) mid rest (inl (semicolon, s)) name r = by_rule (on_the t.Semicolon (n ∷ ts) ts (semicolon, refl) (λ n' e. last (groups_behind_found gs ts mid rest s name r)))
+groups_behind_found gs (n ∷ ts) mid rest (inl (semicolon, s)) name r = by_rule (on_the t.Semicolon (n ∷ ts) ts (semicolon, refl) (λ n'. last (groups_behind_found gs ts mid rest s name r)))
 groups_behind_found gs (n ∷ ts) mid rest (inr (none, e)) name r = by_rule (on_other none (subst (λ l. Runs groups_from l (got gs rest)) (sym e) r))
 
 -- the same, where there need be none
 groups_after_found : (gs : List GroupT) (ts mid rest : List Token) → semicolons ts mid → head mid ≡ t.Identifier → Runs groups_from mid (got gs rest)
     → Calls (class_goal Goals.more_groups) ts (got gs rest)
 groups_after_found gs [] mid rest e name r = let none = ap head e in cc
-groups_after_found gs (n ∷ ts) mid rest (inl (semicolon, s)) name r = by_rule (on_the t.Semicolon (n ∷ ts) ts (semicolon, refl) (λ n' e. last (groups_behind_found gs ts mid rest s name r)))
+groups_after_found gs (n ∷ ts) mid rest (inl (semicolon, s)) name r = by_rule (on_the t.Semicolon (n ∷ ts) ts (semicolon, refl) (λ n'. last (groups_behind_found gs ts mid rest s name r)))
 groups_after_found gs (n ∷ ts) mid rest (inr (none, e)) name r =
     by_rule (on_other none (on_found (ap head e ∙ name) (subst (λ l. Runs groups_from l (got gs rest)) (sym e) r)))
 
@@ -56,7 +57,7 @@ module _ (found : PartsFound) where
   formal_by n None ts mid rest name (none, e') low =
       by_rule (named n ts mid name (λ word e. on_other none (ended_both (ap (λ x. record { place = x.place; name = x.name; constraint = None }) e) e')))
   formal_by n (Some ty) ts mid rest name (m, arrow, s) low =
-      by_rule (named n ts mid name (λ word e. on_the t.Arrow mid m arrow (λ a e'. called (found.type_found ty most_height m rest s low)
+      by_rule (named n ts mid name (λ word e. on_the t.Arrow mid m arrow (λ a. called (found.type_found ty most_height m rest s low)
       (ended_as (ap (λ x. record { place = x.place; name = x.name; constraint = Some ty }) e)))))
 
   pub formal_found : (f : FormalT) (ts rest : List Token) → spelled.spells_formal f ts rest → formal_height f ≤ most_height → Calls (class_goal Goals.formal) ts (got f rest)
@@ -66,14 +67,14 @@ module _ (found : PartsFound) where
       → Calls (class_goal Goals.more_formals) ts (got fs rest)
   more_formals_found [] ts rest (none, e) low = by_rule (on_other none (ended_at e))
   more_formals_found (f ∷ fs) ts rest (m1, comma, (m2, s, more)) low =
-      by_rule (on_the t.Comma ts m1 comma (λ c e. called (formal_found f m1 m2 s (omega arith)) (called (more_formals_found fs m2 rest more (omega arith)) ended)))
+      by_rule (on_the t.Comma ts m1 comma (λ c. called (formal_found f m1 m2 s (omega arith)) (called (more_formals_found fs m2 rest more (omega arith)) ended)))
 
   pub formals_found : (fs : List FormalT) (ts rest : List Token) → spelled.spells_formals fs ts rest → highest formal_height fs ≤ most_height
       → Calls (class_goal Goals.formals) ts (got fs rest)
   formals_found [] ts rest (none, e) low = by_rule (on_other none (ended_at e))
   formals_found (f ∷ fs) ts rest (m1, open', (m2, s, (m3, more, close))) low =
-      by_rule (on_the t.OpenBracket ts m1 open' (λ c e. called (formal_found f m1 m2 s (omega arith)) (called (more_formals_found fs m2 m3 more (omega arith))
-      (expects t.CloseBracket m3 rest close ended))))
+      by_rule (on_the t.OpenBracket ts m1 open' (λ c. called (formal_found f m1 m2 s (omega arith)) (called (more_formals_found fs m2 m3 more (omega arith))
+      (expect_the m3 rest close ended))))
 
   -- ---- groups
 
@@ -103,8 +104,8 @@ module _ (found : PartsFound) where
       → Calls (class_goal Goals.formal_arguments) ts (got gs rest)
   formal_arguments_found [] ts rest (none, e) low = by_rule (on_other none (ended_at e))
   formal_arguments_found (g ∷ gs) ts rest (m1, open', (m2, s, (m3, more, close))) low =
-      by_rule (on_the t.OpenParenthesis ts m1 open' (λ c e. called (group_found g m1 m2 s (omega arith))
-      (called (more_groups_found gs m2 m3 more (the_head t.CloseParenthesis m3 rest close) (omega arith)) (expects t.CloseParenthesis m3 rest close ended))))
+      by_rule (on_the t.OpenParenthesis ts m1 open' (λ c. called (group_found g m1 m2 s (omega arith))
+      (called (more_groups_found gs m2 m3 more (head_the t.CloseParenthesis m3 rest close) (omega arith)) (expect_the m3 rest close ended))))
 
   pub local_groups_found : (gs : List GroupT) (ts rest : List Token) → spelled.local_groups gs ts rest → highest group_height gs ≤ most_height
       → Calls (class_goal Goals.local_groups) ts (got gs rest)
@@ -115,11 +116,11 @@ module _ (found : PartsFound) where
 
   pub locals_found : (gs : List GroupT) (ts rest : List Token) → spelled.spells_locals gs ts rest → highest group_height gs ≤ most_height
       → Calls (class_goal Goals.locals) ts (got gs rest)
-  locals_found gs ts rest (inl (mid, word, s)) low = by_rule (on_the t.Local ts mid word (λ n e. last (local_groups_found gs mid rest s low)))
+  locals_found gs ts rest (inl (mid, word, s)) low = by_rule (on_the t.Local ts mid word (λ n. last (local_groups_found gs mid rest s low)))
   locals_found gs ts rest (inr (m, (empty, e), (none, e'))) low =
       by_rule (on_other (subst (λ l. head l ≢ t.Local) (sym e) none) (ended_both (sym empty) (e ∙ e')))
 
   pub result_type_found : (ty : Option TypeT) (ts rest : List Token) → spelled.spells_result ty ts rest → written_height ty ≤ most_height
       → Calls (class_goal Goals.result_type) ts (got ty rest)
   result_type_found None ts rest (none, e) low = by_rule (on_other none (ended_at e))
-  result_type_found (Some ty) ts rest (mid, colon, s) low = by_rule (on_the t.Colon ts mid colon (λ n e. called (found.type_found ty most_height mid rest s low) ended))
+  result_type_found (Some ty) ts rest (mid, colon, s) low = by_rule (on_the t.Colon ts mid colon (λ n. called (found.type_found ty most_height mid rest s low) ended))

@@ -4,23 +4,15 @@ use Rattle.eif_tree.specs.Tree.{TypeT, GroupT, FormalT, CreatorsT}
 use Rattle.eif_tree.specs.Height.{highest, group_height}
 use Rattle.eif_grammar.specs.declared.terminal.Terminal.TheVariants as t
 use Rattle.eif_grammar.specs.Tokens.{Token}
-use Rattle.eif_grammar.specs.Spelling.{head, the, semicolons}
+use Rattle.eif_grammar.specs.Spelling.{head, the}
 use Rattle.eif_grammar.specs.SpelledClasses as spelled
 use Rattle.eif_grammar.specs.Goals
 use Rattle.eif_grammar.specs.ClassRules.{groups_from, class_rule}
 use Rattle.eif_grammar_laws.proofs.Readers.{Meanings, Means}
 use Rattle.eif_grammar_laws.proofs.ClassMeanings.{low, spells_groups_behind, ClassMeans}
-use Rattle.eif_grammar_laws.proofs.ClassLeads.{Leads, the_here, name_here, took, not_there, both_low}
-
--- ---- semicolons
-
-pub one_semicolon : (ts mid rest : List Token) → the t.Semicolon ts mid → semicolons mid rest → semicolons ts rest
-one_semicolon [] mid rest c s = absurd c
-one_semicolon (n ∷ ts) mid rest (found, e) s = inl (found, rw e s)
-
-pub no_semicolon : (ts : List Token) → head ts ≢ t.Semicolon → semicolons ts ts
-no_semicolon [] none = refl
-no_semicolon (n ∷ ts) none = inr (none, refl)
+use Rattle.eif_grammar_laws.proofs.Meant.{the_here, name_here, not_there, took}
+use Rattle.eif_grammar_laws.proofs.AssertionMeaning.{one_semicolon, no_semicolon}
+use Rattle.eif_grammar_laws.proofs.ClassLeads.{Leads, both_low}
 
 -- ---- groups
 

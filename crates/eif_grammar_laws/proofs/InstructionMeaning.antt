@@ -1,5 +1,5 @@
 -- A rule for instructions finds no more than its goal means.
-use Rattle.std.proofs.Common.{◌≡◌, ℕ, ◌+◌, ◌≤◌, Option, Some, None, List, ◌∷◌, refl, ap, arith, inl, inr}
+use Rattle.std.proofs.Common.{◌≡◌, ℕ, ◌+◌, ◌≤◌, Option, Some, None, List, refl, ap, arith, inl, inr}
 use Rattle.eif_base.specs.declared.Place.{Place}
 use Rattle.eif_tree.specs.declared.NameAt.{NameAt}
 use Rattle.eif_tree.specs.Tree.{TypeT, Ins, Inss, Branches, Otherwise, no_inss, and_ins}
@@ -7,21 +7,21 @@ use Rattle.eif_tree.specs.Height.{written_height, instr_height}
 use Rattle.eif_grammar.specs.declared.terminal.Terminal.TheVariants as t
 use Rattle.eif_grammar.specs.Tokens.{Token}
 use Rattle.eif_grammar.specs.Forms.{begins_expression}
-use Rattle.eif_grammar.specs.Spelling.{head, the_at}
+use Rattle.eif_grammar.specs.Spelling.{head, the, the_at}
 use Rattle.eif_grammar.specs.SpelledInstructions.{spells_created_type, spells_instruction, spells_compound}
 use Rattle.eif_grammar.specs.Goals.{InstructionGoal, InstructionFound, semis, assertions, assertion, invariants, variant, compound, instruction, target, elseifs, otherwise}
 use Rattle.eif_grammar.specs.InstructionRules.{created, InstructionStart, by_name, by_result, by_precursor, by_current, by_create, by_if, by_from, by_check, no_instruction, instruction_start, instruction_by, instruction_rule}
 use Rattle.eif_grammar_laws.proofs.Readers.{Meanings, Means}
 use Rattle.eif_grammar_laws.proofs.Meanings.{InstructionMeans}
-use Rattle.eif_grammar_laws.proofs.Meant.{Meant, seen, the_here, the_at_here, name_here, tested_is, tested_other, room_below}
+use Rattle.eif_grammar_laws.proofs.Meant.{Meant, seen, the_here, the_at_here, name_here, tested_is, tested_other, took, room_below}
 use Rattle.eif_grammar_laws.proofs.InstructionStarts.{InstructionToken, instruction_token}
-use Rattle.eif_grammar_laws.proofs.AssertionMeaning.{semicolon_more, no_semicolon, form_semis, form_assertion, form_assertions, form_invariants, form_variant}
+use Rattle.eif_grammar_laws.proofs.AssertionMeaning.{one_semicolon, no_semicolon, form_semis, form_assertion, form_assertions, form_invariants, form_variant}
 use Rattle.eif_grammar_laws.proofs.CallMeaning.{form_by_name, form_by_result, form_by_precursor, form_by_current}
 
 -- a `;` before instructions
-compound_more : (is : Inss) {w : Token} {ts more : List Token} (rest : List Token) → (w.terminal ≡ t.Semicolon) × (ts ≡ w ∷ more) → spells_compound is more rest → spells_compound is ts rest
-compound_more no_inss rest semicolon (mid, s, end) = (mid, semicolon_more mid semicolon s, end)
-compound_more (and_ins i is) rest semicolon (mid, s, more) = (mid, semicolon_more mid semicolon s, more)
+compound_more : (is : Inss) (ts mid rest : List Token) → the t.Semicolon ts mid → spells_compound is mid rest → spells_compound is ts rest
+compound_more no_inss ts mid rest semicolon (m, s, end) = (m, one_semicolon ts mid m semicolon s, end)
+compound_more (and_ins i is) ts mid rest semicolon (m, s, more) = (m, one_semicolon ts mid m semicolon s, more)
 
 module _ (M : Meanings) (meant : Meant M) where
   form_target : (n : NameAt) (ts rest : List Token) → Means M (instruction_rule target) n ts rest → InstructionMeans target n ts rest
@@ -101,7 +101,7 @@ module _ (M : Meanings) (meant : Meant M) where
   form_compound : (room : ℕ) (is : Inss) (ts rest : List Token) → Means M (instruction_rule (compound room)) is ts rest → InstructionMeans (compound room) is ts rest
   form_compound room is ts rest (y, there, inl (same, (w, more, eq, (is', mid, m, (it, end))))) =
       let a = meant.instructions m in
-      rw (← it, ← end) (compound_more is' mid (seen (tested_is ts t.Semicolon y there same) eq) a.0, a.1)
+      rw (← it, ← end) (compound_more is' ts more mid (took t.Semicolon there same eq) a.0, a.1)
   form_compound room is ts rest (y, there, inr (other, (x, begins, inl (found, (lower, (i, m1, mi, (is', m2, ms, (it, end)))))))) =
       let low = room_below 0 room lower in
       let a = meant.instructions mi (omega arith) in

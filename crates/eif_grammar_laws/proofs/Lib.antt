@@ -1,4 +1,6 @@
 pub mod AssertionMeaning
+pub mod BrokenForms
+pub mod ByComputing
 pub mod CallMeaning
 pub mod CallStarts
 pub mod CallSteps
@@ -7,6 +9,7 @@ pub mod ClassLaws
 pub mod ClassLeads
 pub mod ClassMeaning
 pub mod ClassMeanings
+pub mod ClassSound
 pub mod ClassSteps
 pub mod ClassStill
 pub mod ClassViable
@@ -31,6 +34,7 @@ pub mod Fronts
 pub mod GroupComplete
 pub mod GroupMeaning
 pub mod HeadViable
+pub mod HighOperands
 pub mod InstructionComplete
 pub mod InstructionLaws
 pub mod InstructionMeaning
@@ -61,3 +65,4 @@ pub mod TypeComplete
 pub mod TypeLaws
 pub mod TypeMeaning
 pub mod TypeViable
+pub mod WorkedTexts

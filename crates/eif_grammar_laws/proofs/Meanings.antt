@@ -1,7 +1,7 @@
 -- What each goal finds, in terms of spellings, but for the parts of a class.
-use Rattle.std.proofs.Common.{◌≡◌, ◌≢◌, ℕ, ◌+◌, ◌≤◌, max, Bool, true, ◌==◌, if◌then◌else◌, ◌⊎◌, Option, Some, None, List}
+use Rattle.std.proofs.Common.{◌≡◌, ℕ, ◌+◌, ◌≤◌, max, true, ◌==◌, if◌then◌else◌, ◌⊎◌, Option, List}
 use Rattle.eif_tree.specs.declared.NameAt.{NameAt}
-use Rattle.eif_tree.specs.Tree.{TypeT, Types, Ex, Exs, no_exs, and_ex, precursor, qualified, Ins, Inss, Branches, Otherwise}
+use Rattle.eif_tree.specs.Tree.{Ex, Exs, no_exs, and_ex, precursor, qualified}
 use Rattle.eif_tree.specs.Height.{type_height, types_height, height, heights, maybe_height, instr_height, compound_height, branches_height, otherwise_height}
 use Rattle.eif_grammar.specs.declared.terminal.Terminal.TheVariants as t
 use Rattle.eif_grammar.specs.Tokens.{Token}

@@ -55,8 +55,15 @@ name_here {n} (found, eq) =
 pub tested_is : (ts : List Token) (x y : Terminal) → head ts ≡ y → is x y ≡ true → head ts ≡ x
 tested_is ts x y found same = found ∙ sym (is_same x y same)
 
+pub not_there : (x : Terminal) {y z : Terminal} → z ≡ y → is x y ≡ false → z ≢ x
+not_there x {y} {z} found other same = is_other x y other (sym found ∙ same)
+
 pub tested_other : (ts : List Token) (x y : Terminal) → head ts ≡ y → is x y ≡ false → before (λ z. z ≢ x) ts ts
-tested_other ts x y found other = (λ e. is_other x y other (sym found ∙ e), refl)
+tested_other ts x y found other = (not_there x found other, refl)
+
+-- the token that was tested for is taken
+pub took : (x : Terminal) {y : Terminal} {n : Token} {ts more : List Token} → head ts ≡ y → is x y ≡ true → ts ≡ n ∷ more → the x ts more
+took x {y} {n} {ts} found same eq = the_here (seen (tested_is ts x y found same) eq)
 
 -- room for one more level
 pub room_below : (a room : ℕ) → nat_lt a room ≡ true → a < room

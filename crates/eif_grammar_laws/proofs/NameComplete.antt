@@ -7,7 +7,7 @@ use Rattle.eif_tree.specs.Tree.{ClientsT, ExportT}
 use Rattle.eif_grammar.specs.declared.terminal.Terminal.TheVariants as t
 use Rattle.eif_grammar.specs.Tokens.{Token}
 use Rattle.eif_grammar.specs.Spelling
-use Rattle.eif_grammar.specs.Spelling.{head, one, the, the_name, semicolons}
+use Rattle.eif_grammar.specs.Spelling.{head, the, the_name, semicolons}
 use Rattle.eif_grammar.specs.SpelledClasses as spelled
 use Rattle.eif_grammar.specs.Goals
 use Rattle.eif_grammar.specs.Goals.{class_goal}
@@ -16,7 +16,8 @@ use Rattle.eif_grammar.specs.ClassRules.{no_clients, these_clients}
 use Rattle.eif_grammar.specs.Outcomes.{Outcome, got, Runs, Calls}
 use Rattle.eif_grammar_laws.proofs.Readers.{by_rule, called, ended}
 use Rattle.eif_grammar_laws.proofs.Terminals.{on_found, on_other, one_is}
-use Rattle.eif_grammar_laws.proofs.ClassSteps.{PartsFound, the_head, names_head, last, ended_as, ended_at, ended_both, takes, expects, named, on_the}
+use Rattle.eif_grammar_laws.proofs.Taken.{head_the, expect_the, on_the}
+use Rattle.eif_grammar_laws.proofs.ClassSteps.{PartsFound, names_head, last, ended_as, ended_at, ended_both, takes, named}
 
 -- ---- names
 
@@ -27,7 +28,7 @@ names_step n ns ts mid rest s c = by_rule (named n ts mid s (λ word e. called c
 pub more_names_found : (ns : List NameAt) (ts rest : List Token) → Spelling.more_names ns ts rest → Calls (class_goal Goals.more_names) ts (got ns rest)
 more_names_found [] ts rest (none, e) = by_rule (on_other none (ended_at e))
 more_names_found (n ∷ ns) ts rest (m1, comma, (m2, name, s)) =
-    by_rule (on_the t.Comma ts m1 comma (λ c p. last (names_step n ns m1 m2 rest name (more_names_found ns m2 rest s))))
+    by_rule (on_the t.Comma ts m1 comma (λ c. last (names_step n ns m1 m2 rest name (more_names_found ns m2 rest s))))
 
 pub names_found : (ns : List NameAt) (ts rest : List Token) → Spelling.names ns ts rest → Calls (class_goal Goals.names) ts (got ns rest)
 names_found [] ts rest s = absurd s
@@ -35,20 +36,20 @@ names_found (n ∷ ns) ts rest (mid, name, s) = names_step n ns ts mid rest name
 
 pub colon_names_found : (ns : List NameAt) (ts mid rest : List Token) → Spelling.more_names ns ts mid → the t.Colon mid rest
     → Calls (class_goal Goals.colon_names) ts (got ns rest)
-colon_names_found [] ts mid rest (none, e) colon = by_rule (on_other none (expects t.Colon ts rest (subst (λ l. the t.Colon l rest) (sym e) colon) ended))
+colon_names_found [] ts mid rest (none, e) colon = by_rule (on_other none (expect_the ts rest (subst (λ l. the t.Colon l rest) (sym e) colon) ended))
 colon_names_found (n ∷ ns) ts mid rest (m1, comma, (m2, name, s)) colon =
-    by_rule (on_the t.Comma ts m1 comma (λ c p. named n m1 m2 name (λ word e. called (colon_names_found ns m2 mid rest s colon) (ended_as (ap (λ x. x ∷ ns) e)))))
+    by_rule (on_the t.Comma ts m1 comma (λ c. named n m1 m2 name (λ word e. called (colon_names_found ns m2 mid rest s colon) (ended_as (ap (λ x. x ∷ ns) e)))))
 
 -- ---- clients
 
 these_found : (ns : List NameAt) (ts m1 m2 rest : List Token) → the t.OpenBrace ts m1 → spelled.maybe_names ns m1 m2 → the t.CloseBrace m2 rest
     → Calls (class_goal Goals.clients) ts (got (these_clients ns) rest)
 these_found [] ts m1 m2 rest open' (none, e) close =
-    by_rule (expects t.OpenBrace ts m1 open' (on_the t.CloseBrace m1 rest (subst (λ l. the t.CloseBrace l rest) (sym e) close) (λ c p. ended)))
+    by_rule (expect_the ts m1 open' (on_the t.CloseBrace m1 rest (subst (λ l. the t.CloseBrace l rest) (sym e) close) (λ c. ended)))
 these_found (n ∷ ns) ts m1 m2 rest open' s close =
     let first = names_head (n ∷ ns) m1 m2 s in
     let filled : head m1 ≢ t.CloseBrace = λ e. cc in
-    by_rule (expects t.OpenBrace ts m1 open' (on_other filled (called (names_found (n ∷ ns) m1 m2 s) (expects t.CloseBrace m2 rest close ended))))
+    by_rule (expect_the ts m1 open' (on_other filled (called (names_found (n ∷ ns) m1 m2 s) (expect_the m2 rest close ended))))
 
 pub clients_found : (c : ClientsT) (ts rest : List Token) → spelled.spells_clients c ts rest → Calls (class_goal Goals.clients) ts (got c rest)
 clients_found c ts rest (m0, (stated, e), (m1, open', (m2, s, close))) =
@@ -57,7 +58,7 @@ clients_found c ts rest (m0, (stated, e), (m1, open', (m2, s, close))) =
     subst (λ x. Calls (class_goal Goals.clients) ts (got x rest)) same all
 
 clients_head : (c : ClientsT) (ts rest : List Token) → spelled.spells_clients c ts rest → head ts ≡ t.OpenBrace
-clients_head c ts rest (m0, (stated, e), (m1, open', s)) = ap head e ∙ the_head t.OpenBrace m0 m1 open'
+clients_head c ts rest (m0, (stated, e), (m1, open', s)) = ap head e ∙ head_the t.OpenBrace m0 m1 open'
 
 -- clients, or none, before what goes on by them
 pub maybe_clients_run : {A : Type 0} (c : ClientsT) (k : ClientsT → Reader A) (ts mid : List Token) {o : Outcome A} → spelled.maybe_clients c ts mid → Runs (k c) mid o
@@ -74,7 +75,7 @@ rename_is a b r e f = rw (e, f) refl
 
 pub rename_found : (r : RenamePair) (ts rest : List Token) → spelled.spells_rename r ts rest → Calls (class_goal Goals.rename) ts (got r rest)
 rename_found r ts rest (m1, old, (m2, word, new)) =
-    by_rule (named r.old_name ts m1 old (λ n e. expects t.As m1 m2 word (named r.new_name m2 rest new (λ n' e'. ended_as (rename_is _ _ r e e')))))
+    by_rule (named r.old_name ts m1 old (λ n e. expect_the m1 m2 word (named r.new_name m2 rest new (λ n' e'. ended_as (rename_is _ _ r e e')))))
 
 renames_step : (r : RenamePair) (rs : List RenamePair) (ts mid rest : List Token) → spelled.spells_rename r ts mid
     → Calls (class_goal Goals.more_renames) mid (got rs rest) → Calls (class_goal Goals.renames) ts (got (r ∷ rs) rest)
@@ -83,7 +84,7 @@ renames_step r rs ts mid rest s c = by_rule (called (rename_found r ts mid s) (c
 more_renames_found : (rs : List RenamePair) (ts rest : List Token) → spelled.more_renames rs ts rest → Calls (class_goal Goals.more_renames) ts (got rs rest)
 more_renames_found [] ts rest (none, e) = by_rule (on_other none (ended_at e))
 more_renames_found (r ∷ rs) ts rest (m1, comma, (m2, s, more)) =
-    by_rule (on_the t.Comma ts m1 comma (λ c p. last (renames_step r rs m1 m2 rest s (more_renames_found rs m2 rest more))))
+    by_rule (on_the t.Comma ts m1 comma (λ c. last (renames_step r rs m1 m2 rest s (more_renames_found rs m2 rest more))))
 
 pub renames_found : (rs : List RenamePair) (ts rest : List Token) → spelled.spells_renames rs ts rest → Calls (class_goal Goals.renames) ts (got rs rest)
 renames_found [] ts rest s = absurd s

@@ -6,14 +6,15 @@ use Rattle.eif_tree.specs.Tree.{ClientsT, ExportT}
 use Rattle.eif_grammar.specs.declared.terminal.Terminal.TheVariants as t
 use Rattle.eif_grammar.specs.Tokens.{Token}
 use Rattle.eif_grammar.specs.Spelling
-use Rattle.eif_grammar.specs.Spelling.{head, ◌⨟◌, one, the, the_name, semicolons}
+use Rattle.eif_grammar.specs.Spelling.{head, the}
 use Rattle.eif_grammar.specs.SpelledClasses as spelled
 use Rattle.eif_grammar.specs.ClassRules.{class_rule}
 use Rattle.eif_grammar.specs.Goals
 use Rattle.eif_grammar_laws.proofs.Readers.{Meanings, Means}
 use Rattle.eif_grammar_laws.proofs.Terminals.{one_here}
 use Rattle.eif_grammar_laws.proofs.ClassMeanings.{ClassMeans}
-use Rattle.eif_grammar_laws.proofs.ClassLeads.{Leads, the_here, name_here, token_is, seen, took, not_there}
+use Rattle.eif_grammar_laws.proofs.Meant.{seen, the_here, name_here, tested_is, not_there, took}
+use Rattle.eif_grammar_laws.proofs.ClassLeads.{Leads}
 
 -- ---- one name or more are a first and more
 
@@ -52,7 +53,7 @@ module _ (M : Meanings) (lead : Leads M) where
   pub form_clients : (c : ClientsT) (ts rest : List Token) → Means M (class_rule Goals.clients) c ts rest → ClassMeans Goals.clients c ts rest
   form_clients c ts rest (o, m1, mo, (y, found, inl (same, (b, more, eq, (it, end))))) =
       let close = took t.CloseBrace found same eq in
-      let here : head m1 ≡ t.CloseBrace = seen t.CloseBrace found same in
+      let here : head m1 ≡ t.CloseBrace = tested_is m1 t.CloseBrace y found same in
       rw (← it, ← end) (ts, (refl, refl), (m1, the_here (lead.tokens mo), (m1, (λ q. cc, refl), close)))
   form_clients c ts rest (o, m1, mo, (y, found, inr (other, (ns, m2, mn, (b, m3, mb, (it, end)))))) =
       rw (← it, ← end) (ts, (refl, refl), (m1, the_here (lead.tokens mo), (m2, maybe_from ns m1 m2 (lead.classes mn), the_here (lead.tokens mb))))
@@ -71,7 +72,7 @@ module _ (M : Meanings) (lead : Leads M) where
 
   pub form_export : (x : ExportT) (ts rest : List Token) → Means M (class_rule Goals.export) x ts rest → ClassMeans Goals.export x ts rest
   form_export x ts rest (c, m1, mc, (y, found, inl (same, (a, more, eq, (it, end))))) =
-      rw (← it, ← end) (m1, lead.classes mc, (more, one_here _ eq (token_is (seen t.All found same) eq, refl), (refl, refl)))
+      rw (← it, ← end) (m1, lead.classes mc, (more, one_here _ eq ((seen (tested_is m1 t.All y found same) eq).0, refl), (refl, refl)))
   form_export x ts rest (c, m1, mc, (y, found, inr (other, (ns, m2, mn, (it, end))))) = rw (← it, ← end) (m1, lead.classes mc, lead.classes mn)
 
   pub form_exports : (xs : List ExportT) (ts rest : List Token) → Means M (class_rule Goals.exports) xs ts rest → ClassMeans Goals.exports xs ts rest

@@ -11,7 +11,8 @@ use Rattle.eif_grammar.specs.Goals
 use Rattle.eif_grammar_laws.proofs.Readers.{Meanings, Means}
 use Rattle.eif_grammar_laws.proofs.Terminals.{one_here}
 use Rattle.eif_grammar_laws.proofs.ClassMeanings.{ClassMeans}
-use Rattle.eif_grammar_laws.proofs.ClassLeads.{Leads, the_here, token_is, took, not_there}
+use Rattle.eif_grammar_laws.proofs.Meant.{seen, the_here, not_there, took}
+use Rattle.eif_grammar_laws.proofs.ClassLeads.{Leads}
 
 -- ---- how a literal begins
 
@@ -47,21 +48,21 @@ module _ (M : Meanings) (lead : Leads M) where
   literal_from : (s : LiteralStart) (x : Literal) (ts rest : List Token) → literal_start (head ts) ≡ s → Means M (literal_by s) x ts rest → spells_literal x ts rest
   literal_from plus x ts rest e (n, more, eq, (i, mid, mi, (it, end))) =
       let found = lead.tokens mi in
-      rw (← it, ← end) (inl (more, inl (the_here (token_is (starts_with e (λ q. cc)) eq, eq)), one_here _ found.1 (found.0, refl)))
+      rw (← it, ← end) (inl (more, inl (the_here (seen (starts_with e (λ q. cc)) eq)), one_here _ found.1 (found.0, refl)))
   literal_from minus x ts rest e (n, more, eq, (i, mid, mi, (it, end))) =
       let found = lead.tokens mi in
-      rw (← it, ← end) (inr (more, the_here (token_is (starts_with e (λ q. cc)) eq, eq), one_here _ found.1 (found.0, refl)))
+      rw (← it, ← end) (inr (more, the_here (seen (starts_with e (λ q. cc)) eq), one_here _ found.1 (found.0, refl)))
   literal_from integer x ts rest e (n, more, eq, (it, end)) =
       let here : head ts ≡ t.Integer = starts_with e (λ q. cc) in
-      rw (← it, ← end) (inl (ts, inr (λ q. cc, refl), one_here _ eq (token_is here eq, refl)))
+      rw (← it, ← end) (inl (ts, inr (λ q. cc, refl), one_here _ eq ((seen here eq).0, refl)))
   literal_from character x ts rest e (n, more, eq, (it, end)) =
-      rw (← it, ← end) (one_here _ eq (token_is (starts_with e (λ q. cc)) eq, refl))
+      rw (← it, ← end) (one_here _ eq ((seen (starts_with e (λ q. cc)) eq).0, refl))
   literal_from string x ts rest e (n, more, eq, (it, end)) =
-      rw (← it, ← end) (one_here _ eq (token_is (starts_with e (λ q. cc)) eq, refl))
+      rw (← it, ← end) (one_here _ eq ((seen (starts_with e (λ q. cc)) eq).0, refl))
   literal_from truth x ts rest e (n, more, eq, (it, end)) =
-      rw (← it, ← end) (the_here (token_is (starts_with e (λ q. cc)) eq, eq))
+      rw (← it, ← end) (the_here (seen (starts_with e (λ q. cc)) eq))
   literal_from falsehood x ts rest e (n, more, eq, (it, end)) =
-      rw (← it, ← end) (the_here (token_is (starts_with e (λ q. cc)) eq, eq))
+      rw (← it, ← end) (the_here (seen (starts_with e (λ q. cc)) eq))
   literal_from no_literal x ts rest e m = absurd m
 
   pub form_literal : (x : Literal) (ts rest : List Token) → Means M (class_rule Goals.literal) x ts rest → ClassMeans Goals.literal x ts rest

@@ -9,7 +9,7 @@ use Rattle.eif_grammar.specs.Tokens.{Token}
 use Rattle.eif_grammar.specs.Spelling.{head, the, semicolons}
 use Rattle.eif_grammar.specs.SpelledTypes.{spells_mark, spells_class_type}
 use Rattle.eif_grammar.specs.SpelledClasses as spelled
-use Rattle.eif_grammar.specs.SpelledClasses.{Clause, rename_clause, export_clause, undefine_clause, redefine_clause, select_clause, clause_length, spells_clause, spells_clauses, IsOrderOf}
+use Rattle.eif_grammar.specs.SpelledClasses.{Clause, rename_clause, export_clause, undefine_clause, redefine_clause, select_clause, spells_clause, spells_clauses, IsOrderOf}
 use Rattle.eif_grammar.specs.Forms.{begins_clause}
 use Rattle.eif_grammar.specs.Goals
 use Rattle.eif_grammar.specs.Goals.{class_goal}
@@ -20,22 +20,23 @@ use Rattle.eif_grammar_laws.proofs.Readers.{by_rule, called, looked, looked_at, 
 use Rattle.eif_grammar_laws.proofs.Terminals.{on_found, on_other}
 use Rattle.eif_grammar_laws.proofs.ClassMeanings.{Fills, parent_height}
 use Rattle.eif_grammar_laws.proofs.Clauses.{clause_terminal, clause_started, clause_begins, with_renames, with_exports, with_undefines, with_redefines, with_selects, filled_by_none, fills_rest, fills_whole, unchanged_empty}
-use Rattle.eif_grammar_laws.proofs.ClassSteps.{PartsFound, the_head, name_head, last, ended_as, ended_at, ended_both, takes, expects, on_the}
+use Rattle.eif_grammar_laws.proofs.Taken.{head_the, head_name, expect_the, on_the}
+use Rattle.eif_grammar_laws.proofs.ClassSteps.{PartsFound, last, ended_as, ended_at, ended_both, takes}
 use Rattle.eif_grammar_laws.proofs.NameComplete.{names_found, renames_found, exports_found}
 
 -- ---- clauses
 
 clause_head : (p : ParentT) (c : Clause) (ts rest : List Token) → spells_clause p c ts rest → head ts ≡ clause_terminal c
-clause_head p rename_clause ts rest (mid, word, s) = the_head t.Rename ts mid word
-clause_head p export_clause ts rest (mid, word, s) = the_head t.Export ts mid word
-clause_head p undefine_clause ts rest (mid, word, s) = the_head t.Undefine ts mid word
-clause_head p redefine_clause ts rest (mid, word, s) = the_head t.Redefine ts mid word
-clause_head p select_clause ts rest (mid, word, s) = the_head t.Select ts mid word
+clause_head p rename_clause ts rest (mid, word, s) = head_the t.Rename ts mid word
+clause_head p export_clause ts rest (mid, word, s) = head_the t.Export ts mid word
+clause_head p undefine_clause ts rest (mid, word, s) = head_the t.Undefine ts mid word
+clause_head p redefine_clause ts rest (mid, word, s) = head_the t.Redefine ts mid word
+clause_head p select_clause ts rest (mid, word, s) = head_the t.Select ts mid word
 
 class_type_head : (ty : TypeT) (ts rest : List Token) → spells_class_type ty ts rest → head ts ≡ t.Identifier
 class_type_head (type_at p q m n us) ts rest (m0, (plain, e), (m1, mark, (m2, name, s))) =
     let unmarked : spells_mark Plain p q m0 m1 = subst (λ x. spells_mark x p q m0 m1) plain mark in
-    ap head (e ∙ unmarked.1) ∙ name_head (record { place = q; name = n }) m1 m2 name
+    ap head (e ∙ unmarked.1) ∙ head_name q n m1 m2 name
 
 module _ (found : PartsFound) where
   -- the clause of that kind, where a parent is filled in
@@ -70,7 +71,7 @@ module _ (found : PartsFound) where
       → (p : ParentT) → Fills p q order → Calls (class_goal (Goals.more_clauses p)) ts (got q rest)
   more_clauses_found [] q ts mid rest e word p f =
       let here : the t.End ts rest = subst (λ l. the t.End l rest) (sym e) word in
-      by_rule (looked_at (the_head t.End ts rest here) (forked_not refl (expects t.End ts rest here (ended_as (filled_by_none p q f)))))
+      by_rule (looked_at (head_the t.End ts rest here) (forked_not refl (expect_the ts rest here (ended_as (filled_by_none p q f)))))
   more_clauses_found (c ∷ order) q ts mid rest (m, s, more) word p f =
       by_rule (looked (forked (clause_goes_on q c ts m s) (last (clauses_step c p q order ts m rest f s (more_clauses_found order q m mid rest more word)))))
 
@@ -103,4 +104,4 @@ module _ (found : PartsFound) where
       → Calls (class_goal Goals.parents) ts (got ps rest)
   parents_found [] ts rest (none, e) low = by_rule (on_other none (ended_at e))
   parents_found (p ∷ ps) ts rest (m0, word, (m1, s, (m2, semis, more))) low =
-      by_rule (on_the t.Inherit ts m0 word (λ n e. parents_run p ps m0 m1 m2 rest s (omega arith) semis (more_parents_found ps m2 rest more (omega arith))))
+      by_rule (on_the t.Inherit ts m0 word (λ n. parents_run p ps m0 m1 m2 rest s (omega arith) semis (more_parents_found ps m2 rest more (omega arith))))

@@ -8,10 +8,10 @@ use Rattle.eif_tree.specs.Height.{type_height, highest}
 use Rattle.eif_grammar.specs.declared.terminal.Terminal.TheVariants as t
 use Rattle.eif_grammar.specs.Tokens.{Token}
 use Rattle.eif_grammar.specs.Spelling
-use Rattle.eif_grammar.specs.Spelling.{Spelling, head, ◌⨟◌, never, one, the, semicolons}
+use Rattle.eif_grammar.specs.Spelling.{Spelling, head, ◌⨟◌, never, the, semicolons}
 use Rattle.eif_grammar.specs.SpelledTypes.{spells_class_type}
 use Rattle.eif_grammar.specs.SpelledClasses as spelled
-use Rattle.eif_grammar.specs.SpelledClasses.{Clause, rename_clause, export_clause, undefine_clause, redefine_clause, select_clause, clause_length, spells_clause, IsOrderOf}
+use Rattle.eif_grammar.specs.SpelledClasses.{Clause, rename_clause, export_clause, undefine_clause, redefine_clause, select_clause, clause_length, spells_clause}
 use Rattle.eif_grammar.specs.Forms.{begins_clause}
 use Rattle.eif_grammar.specs.Goals
 use Rattle.eif_grammar.specs.Goals.{class_goal}
@@ -19,7 +19,8 @@ use Rattle.eif_grammar.specs.ClassRules.{unchanged, clause_start, clause_by, cla
 use Rattle.eif_grammar.specs.Parts.{most_height}
 use Rattle.eif_grammar_laws.proofs.Readers.{Meanings, Means}
 use Rattle.eif_grammar_laws.proofs.ClassMeanings.{SameClause, low, parent_height, ClassMeans}
-use Rattle.eif_grammar_laws.proofs.ClassLeads.{Leads, the_here, token_is, took, not_there, both_low, moved}
+use Rattle.eif_grammar_laws.proofs.Meant.{seen, the_here, not_there, took}
+use Rattle.eif_grammar_laws.proofs.ClassLeads.{Leads, both_low, moved}
 use Rattle.eif_grammar_laws.proofs.Clauses.{clause_terminal, starts_clause, Differs, with_renames, with_exports, with_undefines, with_redefines, with_selects, fills_none, fills_first, whole_fills, unchanged_empty}
 
 -- ---- one clause
@@ -94,7 +95,7 @@ module _ (M : Meanings) (lead : Leads M) where
   clauses_from : (p q : ParentT) (ts rest : List Token) (c : Option Clause) → clause_start (head ts) ≡ c → Means M (clauses_by p c) q ts rest → ClassMeans (Goals.clauses p) q ts rest
   clauses_from p q ts rest None e m = absurd m
   clauses_from p q ts rest (Some c) e (empty, (n, more, eq, m)) =
-      clause_from c p q ts more rest (grind (arith, nat_tests, empty)) (the_here (token_is (starts_clause (head ts) c e) eq, eq)) m
+      clause_from c p q ts more rest (grind (arith, nat_tests, empty)) (the_here (seen (starts_clause (head ts) c e) eq)) m
 
   pub form_clauses : (p q : ParentT) (ts rest : List Token) → Means M (class_rule (Goals.clauses p)) q ts rest → ClassMeans (Goals.clauses p) q ts rest
   form_clauses p q ts rest (x, found, m) = clauses_from p q ts rest (clause_start x) (ap clause_start found) m

@@ -1,15 +1,15 @@
 -- Tests on terminals, and single tokens.
-use Rattle.std.proofs.Common.{◌≡◌, ◌≢◌, true, false, Bool, ℕ, zero, suc, ◌+◌, ◌<◌, List, [], ◌∷◌, refl, ap, sym, ◌∙◌, subst, arith}
+use Rattle.std.proofs.Common.{◌≡◌, ◌≢◌, true, false, Bool, ℕ, zero, suc, List, [], ◌∷◌, refl, ap, sym, ◌∙◌, subst, arith}
 use Rattle.std.proofs.lemmas.Bool.Decides.{nat_tests}
 use Rattle.eif_grammar.specs.declared.terminal.Terminal.{Terminal}
 use Rattle.eif_grammar.specs.declared.terminal.Terminal.TheVariants as v
 use Rattle.eif_grammar.specs.Tokens.{Token}
 use Rattle.eif_grammar.specs.Is.{index, is}
-use Rattle.eif_grammar.specs.Spelling.{head, one, the}
-use Rattle.eif_grammar.specs.Goals.{Goal, Found, token}
-use Rattle.eif_grammar.specs.Reader.{Reader, done, look, next, call, guard, fork, on, expect}
+use Rattle.eif_grammar.specs.Spelling.{head, one}
+use Rattle.eif_grammar.specs.Goals.{token}
+use Rattle.eif_grammar.specs.Reader.{Reader, on, expect}
 use Rattle.eif_grammar.specs.Outcomes.{Outcome, got, refused, Runs, Calls}
-use Rattle.eif_grammar_laws.proofs.Readers.{by_rule, called, call_refused, taken, looked, guarded, guard_refused, forked, forked_not, ended}
+use Rattle.eif_grammar_laws.proofs.Readers.{by_rule, called, taken, looked, guarded, guard_refused, forked, forked_not, ended}
 
 -- the terminal with that index
 block_9 : ℕ → Terminal

@@ -1,0 +1,5 @@
+use Rattle.eif_grammar_laws.proofs.TypeLaws.{type_reads, only_type, no_type}
+use Rattle.eif_grammar_laws.proofs.laws.type_laws.Goals as goal
+
+pub returns : goal.returns
+returns c = λ room some. record { each = type_reads room; only = λ tokens left ty read. only_type room tokens left ty some read; none = no_type room }

@@ -1,0 +1,3 @@
+pub mod BrokenForms
+pub mod Examples
+pub mod Laws
