@@ -4,6 +4,8 @@
 mod command;
 mod status;
 mod system;
+#[cfg(test)]
+mod tests;
 mod words;
 
 pub use command::eifcheck;

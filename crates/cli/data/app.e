@@ -1,0 +1,7 @@
+class APP
+create make
+feature
+  make
+    do
+    end
+end
