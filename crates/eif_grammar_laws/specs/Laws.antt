@@ -6,7 +6,7 @@ use Rattle.eif_grammar.specs.Tokens.{Token}
 use Rattle.eif_grammar.specs.SpelledClasses.{spells_class}
 use Rattle.eif_grammar.specs.Goals.{Goal, Found, written, type_goal, expression, expression_goal, compound, instruction_goal, class_text, class_goal}
 use Rattle.eif_grammar.specs.Outcomes.{got, refused, Calls}
-use Rattle.eif_grammar.specs.Parts.{most_height, TypePart, ExpressionPart, CompoundPart, Text, Agree, OnlyPart, NoPart}
+use Rattle.eif_grammar.specs.Parts.{most_height, TypePart, ExpressionPart, CompoundPart, Text, OnlyPart, LongestFront}
 
 -- The tokens at the front are a class text by the longest reading, no part of it higher than it may be, and rest follows.
 abbrev pub ClassPart : List Token → List Token → ClassT → Type 0
@@ -17,9 +17,9 @@ module _ (g : Goal) (part : List Token → List Token → Found g → Type 0) wh
   abbrev pub FindsOnly : Type 0
   FindsOnly = (tokens left : List Token) (x : Found g) → Calls g tokens (got x left) → OnlyPart part tokens left x
 
-  -- where the reading is refused, no tokens that agree with these up to and with the refused one are a part
-  abbrev pub RefusesNone : Type 0
-  RefusesNone = (tokens left : List Token) → Calls g tokens (refused left) → NoPart part tokens left
+  -- where the reading is refused, what is left begins with the first token past the longest front that begins a part
+  abbrev pub RefusesPastFront : Type 0
+  RefusesPastFront = (tokens left : List Token) → Calls g tokens (refused left) → LongestFront part tokens left
 
   -- each part is found
   abbrev pub FindsEach : Type 0
@@ -29,7 +29,7 @@ module _ (g : Goal) (part : List Token → List Token → Found g → Type 0) wh
 pub record Reads (g : Goal) (part : List Token → List Token → Found g → Type 0) : Type 0 where
   pub each : FindsEach g part
   pub only : FindsOnly g part
-  pub none : RefusesNone g part
+  pub front : RefusesPastFront g part
 
 abbrev pub TypeLaws : Type 0
 TypeLaws = (room : ℕ) → 1 ≤ room → Reads (type_goal (written room)) (TypePart room)
@@ -40,14 +40,16 @@ ExpressionLaws = (room : ℕ) → 1 ≤ room → Reads (expression_goal (express
 abbrev pub CompoundLaws : Type 0
 CompoundLaws = (room : ℕ) → Reads (instruction_goal (compound room)) (CompoundPart room)
 
+-- all of the tokens are a class text
+abbrev pub TextPart : List Token → List Token → ClassT → Type 0
+TextPart tokens rest c = (rest ≡ []) × Text tokens c
+
 -- of whole class texts
 pub record ClassLaws : Type 0 where
   pub reads : Reads (class_goal class_text) ClassPart
   -- tokens are one class text at most
   pub one : (tokens : List Token) (c d : ClassT) → Text tokens c → Text tokens d → c ≡ d
-  -- where the reading is refused, no tokens that agree with these up to and with the refused one are a class text
-  pub none_where_refused : (tokens left : List Token) → Calls (class_goal class_text) tokens (refused left)
-      → (other : List Token) (d : ClassT) → Agree tokens left other → Text other d → ⊥
-  -- where it leaves tokens, no tokens that agree with these up to and with the first that is left are one
-  pub none_where_left : (tokens left : List Token) (c : ClassT) → Calls (class_goal class_text) tokens (got c left) → left ≢ []
-      → (other : List Token) (d : ClassT) → Agree tokens left other → Text other d → ⊥
+  -- where the reading is refused, and where it leaves tokens, what is left begins with the first token past the
+  -- longest front that begins a class text
+  pub front_where_refused : (tokens left : List Token) → Calls (class_goal class_text) tokens (refused left) → LongestFront TextPart tokens left
+  pub front_where_left : (tokens left : List Token) (c : ClassT) → Calls (class_goal class_text) tokens (got c left) → left ≢ [] → LongestFront TextPart tokens left

@@ -2,8 +2,8 @@ ghost use Rattle.eif_grammar_laws.specs.Laws.{TypeLaws, ExpressionLaws, Compound
 
 /// Types, in every room from 1 on: each type that tokens begin with by the longest reading is read. What is
 /// read is such a type, and the only one of all tokens that agree with these up to and with the
-/// first that is left. Where the reading is refused, no tokens that agree with these up to and with
-/// the first that is left begin with a type.
+/// first that is left. Where the reading is refused, the tokens before begin a type within the room, and no
+/// tokens that agree with these up to and with the first that is left begin with one.
 pub fn type_laws()
     ensures { TypeLaws }
 {}
@@ -19,7 +19,8 @@ pub fn compound_laws()
 {}
 
 /// The same of class texts. And tokens are one class text at most; where the reading is refused or
-/// leaves tokens, no tokens that agree with these up to and with the first that is left are one.
+/// leaves tokens, the tokens before those begin a class text, and no tokens that agree with these up to and
+/// with the first that is left are one.
 pub fn class_laws()
     ensures { ClassLaws }
 {}

@@ -1,10 +1,11 @@
-use Rattle.eif_grammar_laws.proofs.ClassLaws.{class_reads, one_text, only_class, no_class, no_text_where_refused, no_text_where_left}
+use Rattle.eif_grammar_laws.proofs.ClassLaws.{class_reads, one_text, only_class}
+use Rattle.eif_grammar_laws.proofs.FrontLaws.{longest_class, longest_text, longest_text_behind}
 use Rattle.eif_grammar_laws.proofs.laws.class_laws.Goals as goal
 
 pub returns : goal.returns
 returns c = record {
-  reads = record { each = class_reads; only = only_class; none = no_class };
+  reads = record { each = class_reads; only = only_class; front = longest_class };
   one = one_text;
-  none_where_refused = no_text_where_refused;
-  none_where_left = no_text_where_left;
+  front_where_refused = longest_text;
+  front_where_left = longest_text_behind;
 }
