@@ -6,6 +6,8 @@ mod status;
 mod system;
 #[cfg(test)]
 mod tests;
+#[cfg(test)]
+mod tree_tests;
 mod words;
 
 pub use command::eifcheck;
