@@ -68,11 +68,19 @@ undeclared = procedure make (calling helper no_inss) ∷ []
 abbrev pub twice : List DeclT
 twice = procedure make (calling helper (calling helper no_inss)) ∷ procedure helper no_inss ∷ []
 
+-- the first call is of a declared name, and the second is not
+abbrev pub undeclared_behind : List DeclT
+undeclared_behind = procedure make (calling helper (calling app no_inss)) ∷ procedure helper no_inss ∷ []
+
 abbrev pub WorkedRuns : Type 0
 WorkedRuns =
     (run_app 10 empty ≡ finished [])
     × ((n : ℕ) → run_app n endless ≡ unfinished [])
     × (run_app 10 undeclared ≡ went_wrong no_feature [])
+    × (run_app 10 undeclared_behind ≡ went_wrong no_feature [])
+    -- the root procedure is not there; the root class is not there
+    × (run_app 10 [] ≡ went_wrong no_feature [])
+    × (run 10 (system_of []) app make ≡ went_wrong no_feature [])
     × (run_app 10 twice ≡ finished [])
     -- the root's call has level 1, and what it calls level 2
     × (run_app 1 twice ≡ unfinished [])

@@ -10,7 +10,8 @@ pub fn runs_grow()
 {}
 
 /// Some runs, worked out: one that ends, one that calls itself and is cut off at every bound,
-/// one that goes wrong since a name is not declared, and one that needs two levels of calls.
+/// some that go wrong since a name, the root procedure or the root class is not there, and one that
+/// needs two levels of calls.
 pub fn worked_runs()
     ensures { WorkedRuns }
 {}

@@ -329,7 +329,14 @@ fn a_file_may_have_a_mebibyte(rt: HostRuntime) -> Result<(), Fail> {
     let alloc = rt.alloc();
     let words = ["--root", "app.make", "app.e"];
     let mut texts = mem_texts(alloc, "app.e", &padded(alloc, 1_048_576)?)?;
-    let is_so = ends_so(&rt, alloc, &words, &mut texts, Status::Yes, b"yes 1 classes\n")?;
+    let is_so = ends_so(
+        &rt,
+        alloc,
+        &words,
+        &mut texts,
+        Status::Yes,
+        b"yes 1 classes\n",
+    )?;
     assert!(rt; is_so);
     let mut texts = mem_texts(alloc, "app.e", &padded(alloc, 1_048_577)?)?;
     let is_so = ends_so(&rt, alloc, &words, &mut texts, Status::TooLarge, b"")?;

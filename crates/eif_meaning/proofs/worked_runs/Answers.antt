@@ -3,4 +3,4 @@ use Rattle.eif_meaning.proofs.EndlessRun.{run_endless}
 use Rattle.eif_meaning.proofs.worked_runs.Goals as goal
 
 pub returns : goal.returns
-returns c = (refl, run_endless, refl, refl, refl, refl)
+returns c = (refl, run_endless, refl, refl, refl, refl, refl, refl, refl)
