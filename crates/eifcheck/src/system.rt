@@ -11,7 +11,7 @@ use std::rt::{Env, Files};
 use std::thread::Threads;
 
 /// What the program says on standard error, for each status but those with a report.
-fn complaint(status: Status) -> Option<&'static str> {
+pub fn complaint(status: Status) -> Option<&'static str> {
     match status {
         Status::Yes | Status::Faults => None,
         Status::Usage => Some(

@@ -1,6 +1,7 @@
 ghost use Rattle.std.specs.Prelude.{◌≡◌, ◌≢◌};
 ghost use Rattle.eifcheck.specs.declared.status.Status.TheVariants.{ReadFault, WriteFault};
 
+use crate::system::complaint;
 use crate::{Status, eifcheck};
 use eif_base::{FileTexts, MemSink, MemTexts, OpenGate, SureSink, SureTexts, Texts};
 use std::alloc::{AllocError, Global};
@@ -120,6 +121,22 @@ const OTHER_WORDS: [&[&str]; 11] = [
     &["--root", "1app.make", "app.e"],
     &["--root", "app.end", "app.e"],
     &["--Root", "app.make", "app.e"],
+];
+
+/// Statuses, and what the program says of them.
+const COMPLAINTS: [(Status, Option<&str>); 7] = [
+    (Status::Yes, None),
+    (Status::Faults, None),
+    (
+        Status::Usage,
+        Some(
+            "usage: eifcheck --root CLASS.PROCEDURE [--do check|gen] [--workers N] [--list FILE] [--classes N] [FILES]",
+        ),
+    ),
+    (Status::ReadFault, Some("a file could not be read")),
+    (Status::WriteFault, Some("the report could not be written")),
+    (Status::Memory, Some("out of memory")),
+    (Status::TooLarge, Some("the input is too large")),
 ];
 
 fn owned(alloc: Global, words: &[&str]) -> Result<Vec<String>, AllocError> {
@@ -273,6 +290,21 @@ fn padded(alloc: Global, count: usize) -> Result<Vec<u8>, AllocError> {
     let mut text = Vec::from_slice(alloc, APP)?;
     text.resize(count, b' ')?;
     Ok(text)
+}
+
+/// The number of the first status of which the program says something else.
+fn wrong_complaint(rows: &[(Status, Option<&str>)]) -> Option<usize> {
+    for i in 0..rows.len() {
+        if complaint(rows[i].0) != rows[i].1 {
+            return Some(i);
+        }
+    }
+    None
+}
+
+#[test]
+fn refusals_are_told(rt: HostRuntime) {
+    assert_eq!(rt; wrong_complaint(&COMPLAINTS), None);
 }
 
 #[test]
