@@ -1,0 +1,9 @@
+pub mod Bind
+pub mod ExpressionSteps
+pub mod InstructionLists
+pub mod InstructionSteps
+pub mod Lists
+pub mod Onward
+pub mod Steps
+pub mod Tokens
+pub mod TypeSteps

@@ -1,0 +1,4 @@
+pub mod InstructionSubrules
+pub mod Parts
+pub mod Reads
+pub mod Subrules
