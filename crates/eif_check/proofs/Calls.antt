@@ -1,5 +1,5 @@
 -- Calls that are instructions.
-use Rattle.std.proofs.Common.{◌≡◌, ℕ, Bool, true, false, ◌==◌, List, [], ◌∷◌, ◌++◌, length, refl, ap}
+use Rattle.std.proofs.Common.{◌≡◌, ℕ, false, ◌==◌, List, [], ◌∷◌, ◌++◌, length, refl, ap}
 use Rattle.eif_base.specs.declared.Place.{Place}
 use Rattle.eif_tree.specs.Tree.{Ex, call, unqualified}
 use Rattle.eif_tree.specs.View.{exs_from}

@@ -1,5 +1,5 @@
 -- The faults of a class text and a root: the breaches of the first rule that has any.
-use Rattle.std.specs.Prelude.{◌≡◌, ℕ, Bool, true, if◌then◌else◌, ◌⊎◌, List, [], ◌∷◌, Option, Some, None, Result, Ok, Err, flat_map}
+use Rattle.std.specs.Prelude.{◌≡◌, ℕ, if◌then◌else◌, ◌⊎◌, List, [], ◌∷◌, Option, Some, None, Result, Ok, Err, flat_map}
 use Rattle.std.specs.Str.{bytes_eq}
 use Rattle.eif_base.specs.declared.Place.{Place}
 use Rattle.eif_base.specs.declared.Fault.{Fault}
@@ -9,10 +9,10 @@ use Rattle.eif_base.specs.Files.{no_file}
 use Rattle.eif_tree.specs.declared.NameAt.{NameAt}
 use Rattle.eif_tree.specs.Tree.{DeclT, ClassT}
 use Rattle.eif_tree.specs.Parts.{has_name, declarations, declared_names, creator_names, body_of, called_in}
-use Rattle.eif_grammar.specs.Tokens.{Token, tokens_of}
+use Rattle.eif_grammar.specs.Tokens.{Token, TokenList, tokens_of, end_of}
 use Rattle.eif_grammar.specs.Places.{place_at}
 use Rattle.eif_grammar.specs.LeftOut.{left_out, left_out_text}
-use Rattle.eif_grammar.specs.Plain.{PlainClass, plain_tree, PlainText}
+use Rattle.eif_grammar.specs.Parts.{OnlyText, IsSyntaxFault}
 use Rattle.eif_check.specs.declared.root.Root.{Root}
 use Rattle.eif_check.specs.Plain.{is_plain}
 
@@ -22,9 +22,6 @@ use Rattle.eif_check.specs.Plain.{is_plain}
 abbrev pub text_fault : Code → Place → List ℕ → Fault
 text_fault c place about = record { code = c; case = 1; class = []; feature = []; place = place; about = about }
 
-abbrev pub first_place : ℕ → Place
-first_place file = record { file = file; offset = 0; line = 1; column = 1 }
-
 -- XLEX: no blank, comment or token starts there
 abbrev pub stuck_fault : Place → Fault
 stuck_fault place = text_fault code.Xlex place []
@@ -33,9 +30,15 @@ stuck_fault place = text_fault code.Xlex place []
 abbrev pub left_out_fault : Token → Fault
 left_out_fault t = text_fault code.Xout t.place (left_out_text t.terminal t.text)
 
--- XYET: the text is no plain class
-abbrev pub yet_fault : ℕ → Fault
-yet_fault file = text_fault code.Xyet (first_place file) []
+-- XSYN: the text is no class text, and that is where it breaks off
+abbrev pub syntax_fault : Place → Fault
+syntax_fault place = text_fault code.Xsyn place []
+
+-- ---- the class
+
+-- XYET: the class is not plain
+abbrev pub yet_fault : ClassT → Fault
+yet_fault c = record { code = code.Xyet; case = 1; class = c.name; feature = []; place = c.place; about = [] }
 
 -- ---- the root and the names of a class
 
@@ -83,28 +86,29 @@ first_broken (f ∷ fs) later = f ∷ fs
 abbrev pub class_faults : Root → ClassT → List Fault
 class_faults root c = first_broken (root_class_faults root c) (first_broken (root_procedure_faults root c) (unknown_name_faults c))
 
--- of a class of the form of plain classes
-abbrev pub tree_faults : ℕ → Root → ClassT → List Fault
-tree_faults file root c = if is_plain c then class_faults root c else yet_fault file ∷ []
+-- of a class text
+abbrev pub tree_faults : Root → ClassT → List Fault
+tree_faults root c = if is_plain c then class_faults root c else yet_fault c ∷ []
 
 -- ---- all of it
 
--- the tokens are those of a plain class
-abbrev pub IsPlainText : List Token → PlainClass → Type 0
-IsPlainText tokens p = PlainText tokens p × (is_plain (plain_tree p) ≡ true)
+-- where no token is left out: those of the one class that the tokens are, or their syntax fault
+abbrev pub GrammarFaults : TokenList → Root → List Fault → Type 0
+GrammarFaults list root faults =
+    ((c : ClassT) × OnlyText list.tokens c × (faults ≡ tree_faults root c))
+    ⊎ ((place : Place) × IsSyntaxFault list place × (faults ≡ syntax_fault place ∷ []))
 
-abbrev pub PlainFaults : ℕ → List Token → Root → List Fault → Type 0
-PlainFaults file tokens root faults =
-    ((p : PlainClass) × IsPlainText tokens p × (faults ≡ class_faults root (plain_tree p)))
-    ⊎ (((p : PlainClass) → IsPlainText tokens p → ⊥) × (faults ≡ yet_fault file ∷ []))
+abbrev pub TokenFaults : TokenList → Root → Option Token → List Fault → Type 0
+TokenFaults list root (Some t) faults = faults ≡ left_out_fault t ∷ []
+TokenFaults list root None faults = GrammarFaults list root faults
 
-abbrev pub TokenFaults : ℕ → List Token → Root → Option Token → List Fault → Type 0
-TokenFaults file tokens root (Some t) faults = faults ≡ left_out_fault t ∷ []
-TokenFaults file tokens root None faults = PlainFaults file tokens root faults
+-- of a token list
+abbrev pub ListFaults : TokenList → Root → List Fault → Type 0
+ListFaults list root faults = TokenFaults list root (left_out list.tokens) faults
 
 abbrev pub LexedFaults : ℕ → List ℕ → Root → Result (List Token) ℕ → List Fault → Type 0
 LexedFaults file text root (Err at) faults = faults ≡ stuck_fault (place_at file text at) ∷ []
-LexedFaults file text root (Ok tokens) faults = TokenFaults file tokens root (left_out tokens) faults
+LexedFaults file text root (Ok tokens) faults = ListFaults (record { tokens = tokens; end = end_of file text }) root faults
 
 -- these are the faults of the text of that file, with that root
 abbrev pub FaultsOf : ℕ → List ℕ → Root → List Fault → Type 0

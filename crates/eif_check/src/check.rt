@@ -1,14 +1,14 @@
-ghost use Rattle.std.specs.Prelude.{◌≡◌, ◌≤◌, [], length, IfOk};
+ghost use Rattle.std.specs.Prelude.{◌≡◌, ◌≤◌, length, IfOk};
 ghost use Rattle.eif_base.specs.FileLists.{texts_of};
 ghost use Rattle.eif_tree.specs.View.{class_view};
 ghost use Rattle.eif_check.specs.Faults as spec;
 ghost use Rattle.eif_check.specs.Limits.{AreShort};
 ghost use Rattle.eif_check.specs.Verdicts.{IsVerdict};
 
-use crate::faults::{class_faults, only, text_fault};
+use crate::faults::{class_faults, no_name, only, text_fault, yet_fault};
 use crate::plain::is_plain;
 use crate::root::Root;
-use eif_base::{Code, Fault, FaultList, FileList, Gate, Memory, Name, Place};
+use eif_base::{Code, Fault, FaultList, FileList, Gate, Memory, Place};
 use eif_lex::{LexError, Tokens, lex};
 use eif_parse::{ParseError, parse_class};
 use eif_report::{Verdict, sort_faults};
@@ -16,49 +16,38 @@ use eif_tree::ClassTree;
 use std::alloc::Global;
 use std::thread::Threads;
 
-fn yet_fault(alloc: Global, file: u32) -> Result<Fault, Memory>
-    ensures { IfOk result (λ f. f ≡ spec.yet_fault file) }
-{
-    let place = Place {
-        file,
-        offset: 0,
-        line: 1,
-        column: 1,
-    };
-    text_fault(alloc, Code::Xyet, place, Name::from_bytes(alloc, b"")?)
-}
-
 fn stuck_fault(alloc: Global, place: Place) -> Result<Fault, Memory>
     ensures { IfOk result (λ f. f ≡ spec.stuck_fault place) }
 {
-    text_fault(alloc, Code::Xlex, place, Name::from_bytes(alloc, b"")?)
+    text_fault(alloc, Code::Xlex, place, no_name(alloc)?)
 }
 
-/// The faults of a class text of the form of plain classes.
-fn tree_faults(alloc: Global, file: u32, tree: &ClassTree, root: &Root) -> Result<FaultList, Memory>
-    ensures { IfOk result (λ l. l ≡ spec.tree_faults file root.now (class_view tree.now)) }
+fn syntax_fault(alloc: Global, place: Place) -> Result<Fault, Memory>
+    ensures { IfOk result (λ f. f ≡ spec.syntax_fault place) }
+{
+    text_fault(alloc, Code::Xsyn, place, no_name(alloc)?)
+}
+
+/// The faults of a class text.
+fn tree_faults(alloc: Global, tree: &ClassTree, root: &Root) -> Result<FaultList, Memory>
+    ensures { IfOk result (λ l. l ≡ spec.tree_faults root.now (class_view tree.now)) }
 {
     if is_plain(alloc, tree)? {
         class_faults(alloc, root, tree)
     } else {
-        only(alloc, yet_fault(alloc, file)?)
+        only(alloc, yet_fault(alloc, tree)?)
     }
 }
 
-fn token_faults(
-    alloc: Global,
-    file: u32,
-    tokens: &Tokens<'_>,
-    root: &Root,
-) -> Result<FaultList, Memory>
-    ensures { IfOk result (λ l. spec.LexedFaults file [] root.now (Ok tokens.now.tokens) l) }
+fn token_faults(alloc: Global, tokens: &Tokens<'_>, root: &Root) -> Result<FaultList, Memory>
+    ensures { IfOk result (λ l. spec.ListFaults tokens.now root.now l) }
 {
     match parse_class(alloc, tokens) {
-        Ok(tree) => tree_faults(alloc, file, &tree, root),
+        Ok(tree) => tree_faults(alloc, &tree, root),
         Err(ParseError::Left(place, about)) => {
             only(alloc, text_fault(alloc, Code::Xout, place, about)?)
         }
-        Err(ParseError::Syntax(_)) => only(alloc, yet_fault(alloc, file)?),
+        Err(ParseError::Syntax(place)) => only(alloc, syntax_fault(alloc, place)?),
         Err(ParseError::Memory) => Err(Memory),
     }
 }
@@ -69,7 +58,7 @@ fn text_faults(alloc: Global, file: u32, text: &[u8], root: &Root) -> Result<Fau
     ensures { IfOk result (λ l. spec.FaultsOf file text.now root.now l) }
 {
     match lex(alloc, file, text) {
-        Ok(tokens) => token_faults(alloc, file, &tokens, root),
+        Ok(tokens) => token_faults(alloc, &tokens, root),
         Err(LexError::At(place)) => only(alloc, stuck_fault(alloc, place)?),
         Err(LexError::Memory) => Err(Memory),
     }

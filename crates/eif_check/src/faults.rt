@@ -1,4 +1,4 @@
-//! The faults of a plain class.
+//! The faults of a class text.
 
 ghost use Rattle.std.specs.Prelude.{◌≡◌, [], ◌∷◌, ◌++◌, map, flat_map, IfOk, OnOk};
 ghost use Rattle.eif_tree.specs.Parts as parts;
@@ -12,7 +12,8 @@ use eif_base::{Code, Fault, FaultList, Memory, NO_FILE, Name, Place};
 use eif_tree::{ClassTree, FeatureDecl, NameAt};
 use std::alloc::Global;
 
-fn no_name(alloc: Global) -> Result<Name, Memory>
+/// The name of what has none.
+pub fn no_name(alloc: Global) -> Result<Name, Memory>
     ensures { IfOk result (λ n. n ≡ []) }
 {
     Name::from_bytes(alloc, b"")
@@ -39,6 +40,20 @@ pub fn only(alloc: Global, fault: Fault) -> Result<FaultList, Memory>
     let mut list = FaultList::new(alloc);
     list.push(fault)?;
     Ok(list)
+}
+
+/// The fault of a class that is not plain.
+pub fn yet_fault(alloc: Global, tree: &ClassTree) -> Result<Fault, Memory>
+    ensures { IfOk result (λ f. f ≡ spec.yet_fault (class_view tree.now)) }
+{
+    Ok(Fault {
+        code: Code::Xyet,
+        case: 1,
+        class: tree.name.copy(alloc)?,
+        feature: no_name(alloc)?,
+        place: tree.place,
+        about: no_name(alloc)?,
+    })
 }
 
 fn root_class_fault(alloc: Global, root: &Root) -> Result<Fault, Memory>

@@ -2,8 +2,9 @@
 
 ghost use Rattle.std.specs.Prelude.{◌≡◌, ◌++◌, map, flat_map, IfOk, OnOk};
 ghost use Rattle.eif_tree.specs.Parts as parts;
-ghost use Rattle.eif_tree.specs.View.{class_view, decl_view, kind_view, inss_from, instr_view};
+ghost use Rattle.eif_tree.specs.View.{class_view, creators_view, decl_view, features_view, kind_view, inss_from, instr_view};
 ghost use Rattle.eif_check.specs.Mentions.{name_at};
+ghost use Rattle.eif_check.specs.Plain as plain;
 
 use eif_base::{Memory, Name, Place};
 use eif_tree::{
@@ -87,6 +88,40 @@ pub fn creator_names<'t>(alloc: Global, tree: &'t ClassTree) -> Result<Vec<Menti
     'parts: for part in &tree.creators {
         push_names(&mut out, &part.names)?;
     }
+    Ok(out)
+}
+
+fn push_creators_clients<'t>(
+    out: &mut Vec<Mention<'t>>,
+    parts: &'t [CreatorPart],
+) -> Result<(), Memory>
+    ensures { OnOk result (map name_at out.new.items ≡ map name_at out.old.items ++ flat_map (λ part. part.clients.names) (map creators_view parts.now)) }
+{
+    'parts: for part in parts {
+        push_names(out, &part.clients.names)?;
+    }
+    Ok(())
+}
+
+fn push_features_clients<'t>(
+    out: &mut Vec<Mention<'t>>,
+    parts: &'t [FeatureClause],
+) -> Result<(), Memory>
+    ensures { OnOk result (map name_at out.new.items ≡ map name_at out.old.items ++ flat_map (λ part. part.clients.names) (map features_view parts.now)) }
+{
+    'parts: for part in parts {
+        push_names(out, &part.clients.names)?;
+    }
+    Ok(())
+}
+
+/// The names of clients, of the creators parts and then of the features parts.
+pub fn client_names<'t>(alloc: Global, tree: &'t ClassTree) -> Result<Vec<Mention<'t>>, Memory>
+    ensures { IfOk result (λ v. map name_at v.items ≡ plain.client_names (class_view tree.now)) }
+{
+    let mut out = Vec::new(alloc);
+    push_creators_clients(&mut out, &tree.creators)?;
+    push_features_clients(&mut out, &tree.features)?;
     Ok(out)
 }
 

@@ -1,19 +1,16 @@
 -- How the parts of a class text are read: one rule for each goal.
-use Rattle.std.specs.Prelude.{ℕ, ◌-◌, ◌==◌, pos, ◌-ℤ◌, true, false, Bool, List, [], ◌∷◌, Option, Some, None}
+use Rattle.std.specs.Prelude.{◌==◌, pos, ◌-ℤ◌, true, false, Bool, List, [], ◌∷◌, Option, Some, None}
 use Rattle.std.specs.Str.{str_to_ascii_lowercase}
 use Rattle.eif_tree.specs.declared.NameAt.{NameAt}
-use Rattle.eif_tree.specs.declared.RenamePair.{RenamePair}
 use Rattle.eif_tree.specs.declared.Literal.{Literal}
 use Rattle.eif_tree.specs.declared.Literal.TheVariants as lit
-use Rattle.eif_tree.specs.Tree.{TypeT, no_exs, GroupT, ExportT, ParentT, attribute, constant, deferred_body, routine, KindT, DeclT, ClientsT, FeaturesT, CreatorsT, ClassT}
+use Rattle.eif_tree.specs.Tree.{TypeT, no_exs, GroupT, ParentT, attribute, constant, deferred_body, routine, KindT, DeclT, ClientsT, no_clients, FeaturesT, CreatorsT, ClassT}
 use Rattle.eif_grammar.specs.declared.terminal.Terminal.{Terminal}
 use Rattle.eif_grammar.specs.declared.terminal.Terminal.TheVariants as t
-use Rattle.eif_grammar.specs.Tokens.{Token}
 use Rattle.eif_grammar.specs.Literals.{integer_value, character_value, string_value}
 use Rattle.eif_grammar.specs.Forms.{begins_routine, begins_clause}
 use Rattle.eif_grammar.specs.SpelledClasses.{Clause, rename_clause, export_clause, undefine_clause, redefine_clause, select_clause, clause_length}
-use Rattle.eif_grammar.specs.Goals
-use Rattle.eif_grammar.specs.Goals.{written, unmarked, semis, assertions, invariants, compound, ClassGoal, ClassFound, notes, note_entries, note_item, more_note_items, literal, obsolete, formals, formal, more_formals, names, more_names, colon_names, clients, rename, renames, more_renames, export, exports, more_exports, clauses, more_clauses, parent, parents, more_parents, creators, group, more_groups, groups_behind, formal_arguments, local_groups, locals, result_type, conditions, body, routine_rest, declaration, declarations, features, class_text, Goal, type_goal, expression_goal, instruction_goal, class_goal, token}
+use Rattle.eif_grammar.specs.Goals.{written, unmarked, semis, assertions, invariants, compound, ClassGoal, ClassFound, notes, note_entries, note_item, more_note_items, literal, obsolete, formals, formal, more_formals, names, more_names, colon_names, clients, rename, renames, more_renames, export, exports, more_exports, clauses, more_clauses, parent, parents, more_parents, creators, group, more_groups, groups_behind, formal_arguments, local_groups, locals, result_type, conditions, body, routine_rest, declaration, declarations, features, class_text, type_goal, instruction_goal, class_goal, token}
 use Rattle.eif_grammar.specs.Parts.{most_height}
 use Rattle.eif_grammar.specs.Reader.{Reader, done, refuse, look, next, call, guard, fork, on, expect, name_of}
 
@@ -51,9 +48,6 @@ literal_by falsehood = next (λ _. done (lit.Bool false))
 literal_by no_literal = refuse
 
 -- ---- clients
-
-abbrev pub no_clients : ClientsT
-no_clients = record { stated = false; names = [] }
 
 abbrev pub these_clients : List NameAt → ClientsT
 these_clients ns = record { stated = true; names = ns }

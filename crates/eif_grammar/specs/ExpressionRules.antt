@@ -2,20 +2,17 @@
 use Rattle.std.specs.Prelude.{ℕ, ◌-◌, nat_lt, nat_le, true, false, Option, Some, None}
 use Rattle.std.specs.Str.{str_to_ascii_lowercase}
 use Rattle.eif_base.specs.declared.Place.{Place}
-use Rattle.eif_tree.specs.declared.NameAt.{NameAt}
 use Rattle.eif_tree.specs.declared.Op.{Op}
 use Rattle.eif_tree.specs.declared.Op.TheVariants as op
-use Rattle.eif_tree.specs.declared.Literal.{Literal}
 use Rattle.eif_tree.specs.declared.Literal.TheVariants as lit
-use Rattle.eif_tree.specs.Tree.{TypeT, Ex, Exs, literal, void_value, current_value, result_value, unqualified, precursor, qualified, creation, test, paren, unary, binary, no_exs, and_ex}
+use Rattle.eif_tree.specs.Tree.{TypeT, Ex, literal, void_value, current_value, result_value, unqualified, precursor, qualified, creation, test, paren, unary, binary, no_exs, and_ex}
 use Rattle.eif_tree.specs.Places.{place_of}
 use Rattle.eif_tree.specs.Height.{height}
 use Rattle.eif_grammar.specs.declared.terminal.Terminal.{Terminal}
 use Rattle.eif_grammar.specs.declared.terminal.Terminal.TheVariants as t
-use Rattle.eif_grammar.specs.Tokens.{Token}
 use Rattle.eif_grammar.specs.Literals.{integer_value, character_value, string_value}
-use Rattle.eif_grammar.specs.Forms.{level, right_level, operator, prefix_operator}
-use Rattle.eif_grammar.specs.Goals.{written, ExpressionGoal, ExpressionFound, Creator, expression, climbing, operand, test_local, chain, dots, dotted, primary, precursor_rest, creator, arguments, listed, others, Goal, type_goal, expression_goal, token}
+use Rattle.eif_grammar.specs.Forms.{level, right_level, operator}
+use Rattle.eif_grammar.specs.Goals.{written, ExpressionGoal, ExpressionFound, expression, climbing, operand, test_local, chain, dots, dotted, primary, precursor_rest, creator, arguments, listed, others, type_goal, expression_goal, token}
 use Rattle.eif_grammar.specs.Reader.{Reader, done, refuse, look, next, call, guard, fork, on, expect, name_of}
 
 -- ---- operators

@@ -1,5 +1,5 @@
 -- Which tokens begin a form, and how tightly operators bind.
-use Rattle.std.specs.Prelude.{◌≡◌, ◌≢◌, ℕ, Bool, true, false, Option, Some, None}
+use Rattle.std.specs.Prelude.{ℕ, Bool, true, false, Option, Some, None}
 use Rattle.eif_grammar.specs.declared.terminal.Terminal.{Terminal}
 use Rattle.eif_grammar.specs.declared.terminal.Terminal.TheVariants as t
 use Rattle.eif_tree.specs.declared.Op.{Op}

@@ -1,5 +1,5 @@
 -- What a parser may set out to read, by kind, and what it finds. A room is the height that is left.
-use Rattle.std.specs.Prelude.{ℕ, Bool, List, Option}
+use Rattle.std.specs.Prelude.{ℕ, List, Option}
 use Rattle.eif_base.specs.declared.Place.{Place}
 use Rattle.eif_tree.specs.declared.NameAt.{NameAt}
 use Rattle.eif_tree.specs.declared.RenamePair.{RenamePair}

@@ -8,7 +8,7 @@ use Rattle.eif_grammar.specs.declared.terminal.Terminal.{Terminal}
 use Rattle.eif_grammar.specs.declared.terminal.Terminal.TheVariants as t
 use Rattle.eif_grammar.specs.Tokens.{Token}
 use Rattle.eif_grammar.specs.Forms.{begins_expression, begins_instruction}
-use Rattle.eif_grammar.specs.Goals.{written, expression, climbing, dots, dotted, precursor_rest, creator, arguments, InstructionGoal, InstructionFound, semis, assertions, assertion, invariants, variant, compound, instruction, target, elseifs, otherwise, Goal, type_goal, expression_goal, instruction_goal, token}
+use Rattle.eif_grammar.specs.Goals.{written, expression, climbing, dots, dotted, precursor_rest, creator, arguments, InstructionGoal, InstructionFound, semis, assertions, assertion, invariants, variant, compound, instruction, target, elseifs, otherwise, type_goal, expression_goal, instruction_goal, token}
 use Rattle.eif_grammar.specs.Reader.{Reader, done, refuse, look, next, call, guard, fork, on, expect, name_of}
 
 -- ---- assertions

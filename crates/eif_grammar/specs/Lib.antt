@@ -12,7 +12,6 @@ pub mod Literals
 pub mod Outcomes
 pub mod Parts
 pub mod Places
-pub mod Plain
 pub mod Reader
 pub mod SpelledClasses
 pub mod SpelledExpressions

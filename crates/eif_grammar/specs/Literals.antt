@@ -1,6 +1,6 @@
 -- The values of literals, by their texts.
-use Rattle.std.specs.Prelude.{ℕ, zero, suc, ◌-◌, ◌==◌, if◌then◌else◌, ℤ, pos, List, [], ◌∷◌, drop, Option, Some, None, unwrap_or}
-use Rattle.std.specs.Option.{option_map, option_map_or}
+use Rattle.std.specs.Prelude.{ℕ, zero, suc, ◌-◌, ◌==◌, if◌then◌else◌, ℤ, pos, List, [], ◌∷◌, drop}
+use Rattle.std.specs.Option.{option_map_or}
 use Rattle.eif_grammar.specs.Lexemes.{number_of, escape, character_item}
 
 abbrev pub integer_value : List ℕ → ℤ

@@ -1,6 +1,5 @@
 -- What a reader gives of some tokens.
-use Rattle.std.specs.Prelude.{◌≡◌, ◌≢◌, true, false, Bool, ℕ, zero, suc, List, [], ◌∷◌}
-use Rattle.eif_grammar.specs.declared.terminal.Terminal.{Terminal}
+use Rattle.std.specs.Prelude.{◌≡◌, ◌≢◌, true, false, ℕ, zero, suc, List, [], ◌∷◌}
 use Rattle.eif_grammar.specs.Tokens.{Token}
 use Rattle.eif_grammar.specs.Is.{is}
 use Rattle.eif_grammar.specs.Spelling.{head}

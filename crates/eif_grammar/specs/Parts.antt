@@ -1,8 +1,9 @@
 -- The parts of a class text, and what it means that tokens begin one.
 use Rattle.std.specs.Prelude.{◌≡◌, ℕ, ◌≤◌, ◌⊎◌, List, [], ◌∷◌, ◌++◌}
+use Rattle.eif_base.specs.declared.Place.{Place}
 use Rattle.eif_tree.specs.Tree.{TypeT, Ex, Inss, ClassT}
 use Rattle.eif_tree.specs.Height.{type_height, height, compound_height, class_height}
-use Rattle.eif_grammar.specs.Tokens.{Token}
+use Rattle.eif_grammar.specs.Tokens.{Token, TokenList}
 use Rattle.eif_grammar.specs.SpelledTypes.{spells_type}
 use Rattle.eif_grammar.specs.SpelledExpressions.{spells_expression}
 use Rattle.eif_grammar.specs.SpelledInstructions.{spells_compound}
@@ -25,6 +26,15 @@ CompoundPart room tokens rest is = spells_compound is tokens rest × (compound_h
 -- all the tokens are a class text
 abbrev pub Text : List Token → ClassT → Type 0
 Text tokens c = spells_class c tokens [] × (class_height c ≤ most_height)
+
+-- the same as a part, behind which nothing follows
+abbrev pub TextPart : List Token → List Token → ClassT → Type 0
+TextPart tokens rest c = (rest ≡ []) × Text tokens c
+
+-- all the tokens are this class text and no other
+pub record OnlyText (tokens : List Token) (c : ClassT) : Type 0 where
+  pub is_text : Text tokens c
+  pub only : (other : ClassT) → Text tokens other → other ≡ c
 
 -- The other tokens are the given ones, or agree with them up to and with the first that is left.
 abbrev pub Agree : List Token → List Token → List Token → Type 0
@@ -53,3 +63,17 @@ module _ {X : Type 0} (part : List Token → List Token → X → Type 0) where
     pub begins : tokens ≡ front ++ left
     pub viable : IsFront front
     pub longest : NoPart tokens left
+
+-- ---- texts that are no class text
+
+-- where the first token that is left begins, or the text ends
+abbrev pub left_place : Place → List Token → Place
+left_place end [] = end
+left_place end (w ∷ ws) = w.place
+
+-- The syntax fault of a text that is no class text: its place is that of the first token past the longest front that
+-- begins a class text, or the text's end where the tokens break off.
+pub record IsSyntaxFault (list : TokenList) (place : Place) : Type 0 where
+  pub left : List Token
+  pub past : LongestFront TextPart list.tokens left
+  pub is_place : place ≡ left_place list.end left

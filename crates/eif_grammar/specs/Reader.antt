@@ -1,6 +1,5 @@
 -- Readers: what a parser looks at and takes, token by token, and which goals it calls.
-use Rattle.std.specs.Prelude.{Bool, true, false, ℕ, List, [], ◌∷◌}
-use Rattle.eif_base.specs.declared.Place.{Place}
+use Rattle.std.specs.Prelude.{Bool}
 use Rattle.std.specs.Str.{str_to_ascii_lowercase}
 use Rattle.eif_tree.specs.declared.NameAt.{NameAt}
 use Rattle.eif_grammar.specs.declared.terminal.Terminal.{Terminal}

@@ -1,17 +1,15 @@
 -- Which tokens spell a class text.
-use Rattle.std.specs.Prelude.{◌≡◌, ◌≢◌, ◌≤◌, ℕ, zero, suc, Bool, true, false, ◌==◌, if◌then◌else◌, ℤ, pos, ◌-ℤ◌, List, [], ◌∷◌, length, Option, Some, None, max, map}
+use Rattle.std.specs.Prelude.{◌≡◌, ◌≢◌, ℕ, zero, suc, Bool, true, false, ◌==◌, if◌then◌else◌, pos, ◌-ℤ◌, List, [], ◌∷◌, length, Option, Some, None}
 use Rattle.eif_base.specs.declared.Place.{Place}
 use Rattle.eif_tree.specs.declared.NameAt.{NameAt}
 use Rattle.eif_tree.specs.declared.RenamePair.{RenamePair}
 use Rattle.eif_tree.specs.declared.Literal.{Literal}
 use Rattle.eif_tree.specs.declared.Literal.TheVariants as lit
-use Rattle.eif_tree.specs.Tree.{TypeT, Exs, no_exs, Inss, GroupT, FormalT, ClientsT, ExportT, ParentT, CreatorsT, KindT, attribute, constant, deferred_body, routine, DeclT, FeaturesT, ClassT}
-use Rattle.eif_grammar.specs.declared.terminal.Terminal.{Terminal}
+use Rattle.eif_tree.specs.Tree.{TypeT, no_exs, GroupT, FormalT, ClientsT, ExportT, ParentT, CreatorsT, KindT, attribute, constant, deferred_body, routine, DeclT, FeaturesT, ClassT}
 use Rattle.eif_grammar.specs.declared.terminal.Terminal.TheVariants as t
-use Rattle.eif_grammar.specs.Tokens.{Token}
 use Rattle.eif_grammar.specs.Literals.{integer_value, character_value, string_value}
 use Rattle.eif_grammar.specs.Forms.{begins_routine, begins_clause}
-use Rattle.eif_grammar.specs.Spelling.{Spelling, head, ◌⨟◌, ◌or◌, given, nothing, before, never, one, the, the_at, name_at, the_name, maybe, semicolons, more_names, names}
+use Rattle.eif_grammar.specs.Spelling.{Spelling, ◌⨟◌, ◌or◌, given, nothing, before, never, one, the, the_at, name_at, the_name, maybe, semicolons, names}
 use Rattle.eif_grammar.specs.SpelledTypes.{spells_type, spells_class_type}
 use Rattle.eif_grammar.specs.SpelledInstructions.{assertions_behind, spells_compound}
 

@@ -1,13 +1,12 @@
 -- Which tokens spell assertions and instructions.
-use Rattle.std.specs.Prelude.{◌≡◌, ◌≢◌, ℕ, Bool, true, false, List, [], ◌∷◌, Option, Some, None, codes}
-use Rattle.eif_base.specs.declared.Place.{Place}
+use Rattle.std.specs.Prelude.{◌≡◌, ◌≢◌, Bool, true, false, List, [], ◌∷◌, Option, Some, None, codes}
 use Rattle.eif_tree.specs.declared.NameAt.{NameAt}
-use Rattle.eif_tree.specs.Tree.{TypeT, Ex, Exs, literal, void_value, current_value, result_value, unqualified, precursor, qualified, creation, test, paren, unary, binary, no_exs, and_ex, Ins, Inss, Branches, Otherwise, assign, call, create, choose, loop, check, no_inss, and_ins, no_branches, and_branch, no_else, else_part}
+use Rattle.eif_tree.specs.Tree.{TypeT, Ex, Exs, current_value, result_value, unqualified, precursor, qualified, no_exs, and_ex, Ins, Inss, Branches, Otherwise, assign, call, create, choose, loop, check, no_inss, and_ins, no_branches, and_branch, no_else, else_part}
 use Rattle.eif_grammar.specs.declared.terminal.Terminal.{Terminal}
 use Rattle.eif_grammar.specs.declared.terminal.Terminal.TheVariants as t
 use Rattle.eif_grammar.specs.Tokens.{Token}
 use Rattle.eif_grammar.specs.Forms.{begins_expression, begins_instruction, target_level}
-use Rattle.eif_grammar.specs.Spelling.{Spelling, head, ◌⨟◌, ◌or◌, given, nothing, before, never, one, the, the_at, the_name, semicolons}
+use Rattle.eif_grammar.specs.Spelling.{Spelling, head, ◌⨟◌, ◌or◌, given, nothing, before, never, the, the_at, the_name, semicolons}
 use Rattle.eif_grammar.specs.SpelledExpressions.{undotted, spells, spells_arguments, spells_expression, braced_type, spells_creator}
 
 -- ---- assertions

@@ -1,14 +1,12 @@
 -- Which tokens spell a type.
 --   Type       = ["?" | "!" | "detachable" | "attached"] Class_type
 --   Class_type = Id ["[" Type {"," Type} "]"]
-use Rattle.std.specs.Prelude.{◌≡◌, ◌≢◌, ◌≤◌, ℕ, List}
+use Rattle.std.specs.Prelude.{◌≡◌, ◌≢◌}
 use Rattle.eif_base.specs.declared.Place.{Place}
 use Rattle.eif_tree.specs.declared.Mark.{Mark}
 use Rattle.eif_tree.specs.declared.Mark.TheVariants.{Plain, Attached, Detachable}
 use Rattle.eif_tree.specs.Tree.{TypeT, Types, type_at, no_types, and_type}
-use Rattle.eif_tree.specs.Height.{type_height}
 use Rattle.eif_grammar.specs.declared.terminal.Terminal.TheVariants as t
-use Rattle.eif_grammar.specs.Tokens.{Token}
 use Rattle.eif_grammar.specs.Spelling.{Spelling, ◌⨟◌, ◌or◌, given, before, the, the_at, name_at}
 
 -- a mark at p before a name at q

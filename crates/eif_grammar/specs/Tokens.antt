@@ -1,10 +1,9 @@
 -- The tokens of a text, by cases on its suffixes.
-use Rattle.std.specs.Prelude.{ℕ, zero, suc, ◌+◌, ◌-◌, Bool, if◌then◌else◌, List, [], ◌∷◌, ◌++◌, take, length, Option, Some, None, Result, Ok, Err, nat_eq}
+use Rattle.std.specs.Prelude.{ℕ, zero, suc, ◌+◌, ◌-◌, if◌then◌else◌, List, [], ◌∷◌, ◌++◌, take, length, Option, Some, None, Result, Ok, Err, nat_eq}
 use Rattle.std.specs.List.{starts_with}
 use Rattle.eif_base.specs.declared.Place.{Place}
 use Rattle.eif_grammar.specs.declared.piece.Piece.{Piece}
 use Rattle.eif_grammar.specs.declared.terminal.Terminal.{Terminal}
-use Rattle.eif_grammar.specs.declared.terminal.Terminal.TheVariants as t
 use Rattle.eif_grammar.specs.Lexemes.{piece}
 use Rattle.eif_grammar.specs.Places.{place_at}
 

@@ -1,14 +1,14 @@
 -- How types are read: one rule for each goal.
-use Rattle.std.specs.Prelude.{ℕ, ◌-◌, nat_lt, Option, Some, None}
+use Rattle.std.specs.Prelude.{ℕ, ◌-◌, nat_lt}
 use Rattle.std.specs.Str.{str_to_ascii_lowercase}
 use Rattle.eif_base.specs.declared.Place.{Place}
 use Rattle.eif_tree.specs.declared.Mark.{Mark}
 use Rattle.eif_tree.specs.declared.Mark.TheVariants.{Plain, Attached, Detachable}
-use Rattle.eif_tree.specs.Tree.{TypeT, Types, type_at, no_types, and_type}
+use Rattle.eif_tree.specs.Tree.{TypeT, type_at, no_types, and_type}
 use Rattle.eif_grammar.specs.declared.terminal.Terminal.{Terminal}
 use Rattle.eif_grammar.specs.declared.terminal.Terminal.TheVariants as t
 use Rattle.eif_grammar.specs.Tokens.{Token}
-use Rattle.eif_grammar.specs.Goals.{TypeGoal, TypeFound, written, unmarked, actuals, more_types, Goal, type_goal, token}
+use Rattle.eif_grammar.specs.Goals.{TypeGoal, TypeFound, written, unmarked, actuals, more_types, type_goal, token}
 use Rattle.eif_grammar.specs.Reader.{Reader, done, refuse, look, next, call, guard, on, expect}
 
 -- how a type begins

@@ -1,13 +1,13 @@
 -- What was taken of a class's features can be completed: a missing body is `do end`, a missing literal `1`.
 use Rattle.std.proofs.Common.{List, Option, Some, None, refl}
 use Rattle.eif_tree.specs.declared.NameAt.{NameAt}
-use Rattle.eif_tree.specs.Tree.{TypeT, GroupT, ClientsT}
+use Rattle.eif_tree.specs.Tree.{TypeT, GroupT, ClientsT, no_clients}
 use Rattle.eif_grammar.specs.declared.terminal.Terminal.{Terminal}
 use Rattle.eif_grammar.specs.declared.terminal.Terminal.TheVariants as t
 use Rattle.eif_grammar.specs.Parts.{most_height}
 use Rattle.eif_grammar.specs.Goals
 use Rattle.eif_grammar.specs.Goals.{ClassGoal, class_goal}
-use Rattle.eif_grammar.specs.ClassRules.{no_clients, creators_of, features_of, value_of, typed, several, routine_from, class_rule}
+use Rattle.eif_grammar.specs.ClassRules.{creators_of, features_of, value_of, typed, several, routine_from, class_rule}
 use Rattle.eif_grammar_laws.proofs.Endings.{at_end}
 use Rattle.eif_grammar_laws.proofs.Closing.{not_here, ends_routine, ends_closes, other_second, other_closes}
 use Rattle.eif_grammar_laws.proofs.Completions.{Living, Live, living_done, living_next, living_test, living_call, living_token, live_done, live_call, live_token, live_expect, live_other}

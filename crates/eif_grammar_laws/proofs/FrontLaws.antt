@@ -7,8 +7,8 @@ use Rattle.eif_grammar.specs.Tokens.{Token}
 use Rattle.eif_grammar.specs.Goals
 use Rattle.eif_grammar.specs.Goals.{Goal, Found, type_goal, expression_goal, instruction_goal, class_goal}
 use Rattle.eif_grammar.specs.Outcomes.{got, refused, Calls}
-use Rattle.eif_grammar.specs.Parts.{TypePart, ExpressionPart, CompoundPart, NoPart, LongestFront}
-use Rattle.eif_grammar_laws.specs.Laws.{ClassPart, TextPart}
+use Rattle.eif_grammar.specs.Parts.{TypePart, ExpressionPart, CompoundPart, TextPart, NoPart, LongestFront}
+use Rattle.eif_grammar_laws.specs.Laws.{ClassPart}
 use Rattle.eif_grammar_laws.proofs.Endings.{stops, HasRoom}
 use Rattle.eif_grammar_laws.proofs.Stable.{stable, calls_suffix}
 use Rattle.eif_grammar_laws.proofs.Takes.{all_take}

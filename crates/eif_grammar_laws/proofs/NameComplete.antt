@@ -3,7 +3,7 @@ use Rattle.std.proofs.Common.{◌≡◌, ◌≢◌, List, [], ◌∷◌, Option,
 use Rattle.eif_base.specs.declared.Place.{Place}
 use Rattle.eif_tree.specs.declared.NameAt.{NameAt}
 use Rattle.eif_tree.specs.declared.RenamePair.{RenamePair}
-use Rattle.eif_tree.specs.Tree.{ClientsT, ExportT}
+use Rattle.eif_tree.specs.Tree.{ClientsT, no_clients, ExportT}
 use Rattle.eif_grammar.specs.declared.terminal.Terminal.TheVariants as t
 use Rattle.eif_grammar.specs.Tokens.{Token}
 use Rattle.eif_grammar.specs.Spelling
@@ -12,7 +12,7 @@ use Rattle.eif_grammar.specs.SpelledClasses as spelled
 use Rattle.eif_grammar.specs.Goals
 use Rattle.eif_grammar.specs.Goals.{class_goal}
 use Rattle.eif_grammar.specs.Reader.{Reader, call, on}
-use Rattle.eif_grammar.specs.ClassRules.{no_clients, these_clients}
+use Rattle.eif_grammar.specs.ClassRules.{these_clients}
 use Rattle.eif_grammar.specs.Outcomes.{Outcome, got, Runs, Calls}
 use Rattle.eif_grammar_laws.proofs.Readers.{by_rule, called, ended}
 use Rattle.eif_grammar_laws.proofs.Terminals.{on_found, on_other, one_is}

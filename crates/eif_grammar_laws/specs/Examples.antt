@@ -4,9 +4,8 @@ use Rattle.eif_base.specs.declared.Place.{Place}
 use Rattle.eif_tree.specs.declared.Mark.TheVariants.{Plain, Detachable}
 use Rattle.eif_tree.specs.declared.Literal.TheVariants as lit
 use Rattle.eif_tree.specs.declared.NameAt.{NameAt}
-use Rattle.eif_tree.specs.Tree.{TypeT, Types, type_at, no_types, and_type, Ex, Exs, literal, void_value, unqualified, qualified, no_exs, and_ex, Ins, Inss, assign, call, no_inss, and_ins, GroupT, FormalT, CreatorsT, attribute, routine, DeclT, ClassT}
+use Rattle.eif_tree.specs.Tree.{TypeT, Types, type_at, no_types, and_type, Ex, Exs, literal, void_value, unqualified, qualified, no_exs, and_ex, Ins, Inss, assign, call, no_inss, and_ins, GroupT, FormalT, no_clients, CreatorsT, attribute, routine, DeclT, ClassT}
 use Rattle.eif_grammar.specs.Tokens.{Token, tokens_of}
-use Rattle.eif_grammar.specs.Plain.{no_clients}
 use Rattle.eif_grammar.specs.Parts.{Text}
 
 -- each line and a line feed

@@ -6,7 +6,7 @@ use Rattle.eif_grammar.specs.Tokens.{Token}
 use Rattle.eif_grammar.specs.SpelledClasses.{spells_class}
 use Rattle.eif_grammar.specs.Goals.{Goal, Found, written, type_goal, expression, expression_goal, compound, instruction_goal, class_text, class_goal}
 use Rattle.eif_grammar.specs.Outcomes.{got, refused, Calls}
-use Rattle.eif_grammar.specs.Parts.{most_height, TypePart, ExpressionPart, CompoundPart, Text, OnlyPart, LongestFront}
+use Rattle.eif_grammar.specs.Parts.{most_height, TypePart, ExpressionPart, CompoundPart, Text, TextPart, OnlyPart, LongestFront}
 
 -- The tokens at the front are a class text by the longest reading, no part of it higher than it may be, and rest follows.
 abbrev pub ClassPart : List Token → List Token → ClassT → Type 0
@@ -39,10 +39,6 @@ ExpressionLaws = (room : ℕ) → 1 ≤ room → Reads (expression_goal (express
 
 abbrev pub CompoundLaws : Type 0
 CompoundLaws = (room : ℕ) → Reads (instruction_goal (compound room)) (CompoundPart room)
-
--- all of the tokens are a class text
-abbrev pub TextPart : List Token → List Token → ClassT → Type 0
-TextPart tokens rest c = (rest ≡ []) × Text tokens c
 
 -- of whole class texts
 pub record ClassLaws : Type 0 where

@@ -2,7 +2,7 @@
 use Rattle.std.specs.Prelude.{◌≡◌, ℕ, false, List, [], ◌∷◌, None, codes}
 use Rattle.eif_base.specs.declared.Place.{Place}
 use Rattle.eif_tree.specs.declared.NameAt.{NameAt}
-use Rattle.eif_tree.specs.Tree.{Inss, no_inss, and_ins, call, unqualified, no_exs, routine, DeclT, ClientsT, ClassT}
+use Rattle.eif_tree.specs.Tree.{Inss, no_inss, and_ins, call, unqualified, no_exs, routine, DeclT, no_clients, ClassT}
 use Rattle.eif_meaning.specs.System.{system_of}
 use Rattle.eif_meaning.specs.Values.{no_feature}
 use Rattle.eif_meaning.specs.Run.{Ran, finished, unfinished, went_wrong, run}
@@ -35,10 +35,6 @@ procedure name body = record {
   preconditions = no_exs;
   postconditions = no_exs;
 }
-
--- a part without a client list
-abbrev pub no_clients : ClientsT
-no_clients = record { stated = false; names = [] }
 
 abbrev pub app_with : List DeclT → ClassT
 app_with decls = record {

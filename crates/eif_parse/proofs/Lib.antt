@@ -1,3 +1,8 @@
-pub mod OneForm
-pub mod Steps
-pub mod Tokens
+pub mod FeatureSteps
+pub mod GroupSteps
+pub mod HeadSteps
+pub mod Lists
+pub mod NameSteps
+pub mod NoteSteps
+pub mod ParentSteps
+pub mod WholeTexts

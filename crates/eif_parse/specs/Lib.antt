@@ -1,3 +1,2 @@
-pub mod OnePlain
 pub mod Parses
-pub mod Reads
+pub mod Subrules

@@ -1,12 +1,13 @@
--- An expression, an assertion and an instruction each take a token.
+-- What takes a token: an expression, an assertion, an instruction.
 use Rattle.std.proofs.Common.{◌≡◌, ℕ, ◌≤◌, ◌<◌, nat_lt, Bool, true, false, List, [], ◌∷◌, drop, length, subst, arith}
 use Rattle.std.proofs.lemmas.List.{length-drop}
 use Rattle.eif_tree.specs.Tree.{Ex, Ins}
+use Rattle.eif_grammar.specs.declared.terminal.Terminal.{Terminal}
 use Rattle.eif_grammar.specs.declared.terminal.Terminal.TheVariants as t
 use Rattle.eif_grammar.specs.Tokens.{Token}
 use Rattle.eif_grammar.specs.Is.{is}
 use Rattle.eif_grammar.specs.Spelling.{head}
-use Rattle.eif_grammar.specs.Goals.{expression, operand, chain, primary, assertion, instruction, expression_goal, instruction_goal}
+use Rattle.eif_grammar.specs.Goals.{expression, operand, chain, primary, assertion, instruction, expression_goal, instruction_goal, token}
 use Rattle.eif_grammar.specs.Reader.{Reader, next, guard, fork}
 use Rattle.eif_grammar.specs.ExpressionRules.{OperandStart, braced, attached, prefixed, chained, operand_start, operand_by, PrimaryStart, by_name, by_precursor, by_integer, by_character, by_string, by_true, by_false, by_void, by_current, by_result, by_parenthesis, by_create, no_primary, primary_start, primary_by}
 use Rattle.eif_grammar.specs.InstructionRules as i
@@ -17,14 +18,18 @@ use Rattle.eif_grammar_laws.proofs.StepsBack.{look_back, next_back, guard_back, 
 run_left : {A : Type 0} (o : Outcome A) (a : A) (ts rest : List Token) → o ≡ got a rest → left o ≤ length ts → length rest ≤ length ts
 run_left o a ts rest e le = subst (λ x. left x ≤ length ts) e le
 
-runs_shrink : {A : Type 0} {r : Reader A} {ts rest : List Token} {a : A} → Runs r ts (got a rest) → length rest ≤ length ts
+-- nothing is given back
+pub runs_shrink : {A : Type 0} {r : Reader A} {ts rest : List Token} {a : A} → Runs r ts (got a rest) → length rest ≤ length ts
 runs_shrink {A} {r} {ts} {rest} {a} h = run_left (run (reached h.depth) r ts) a ts rest h.runs (run_shrinks (reached h.depth) (reached_shrinks h.depth) r ts)
 
-next_takes : {A : Type 0} {k : Token → Reader A} {rest : List Token} {a : A} (ts : List Token) → Runs (next k) ts (got a rest) → length rest < length ts
+pub next_takes : {A : Type 0} {k : Token → Reader A} {rest : List Token} {a : A} (ts : List Token) → Runs (next k) ts (got a rest) → length rest < length ts
 next_takes [] h = let e = h.runs in cc
 next_takes (w ∷ ts) h = omega (arith, runs_shrink (next_back h))
 
-guard_takes : {A : Type 0} {k : Token → Reader A} {rest : List Token} {a : A} (b : Bool) (ts : List Token) → Runs (guard b (next k)) ts (got a rest) → length rest < length ts
+pub token_takes : {x : Terminal} {w : Token} {ts rest : List Token} → Calls (token x) ts (got w rest) → length rest < length ts
+token_takes {x} {w} {ts} c = next_takes ts (guard_back (is x (head ts)) (look_back (rule_runs c))).1
+
+pub guard_takes : {A : Type 0} {k : Token → Reader A} {rest : List Token} {a : A} (b : Bool) (ts : List Token) → Runs (guard b (next k)) ts (got a rest) → length rest < length ts
 guard_takes b ts h = next_takes ts (guard_back b h).1
 
 fork_takes : {A : Type 0} {k : Token → Reader A} {s : Reader A} {rest : List Token} {a : A} (b : Bool) (ts : List Token) → (Runs s ts (got a rest) → length rest < length ts)
@@ -90,7 +95,7 @@ instruction_takes {room} {e} {ts} {rest} c = go (i.instruction_start (head ts)) 
 
 -- ---- by the tokens' numbers
 
-further : (ts : List Token) (at after : ℕ) → after ≤ length ts → length (drop after ts) < length (drop at ts) → at < after
+pub further : (ts : List Token) (at after : ℕ) → after ≤ length ts → length (drop after ts) < length (drop at ts) → at < after
 further ts at after within lt = omega (arith, length-drop at ts, length-drop after ts)
 
 pub assertion_onward : {room : ℕ} {e : Ex} (ts : List Token) (at after : ℕ) → Calls (instruction_goal (assertion room)) (drop at ts) (got e (drop after ts)) → after ≤ length ts → at < after

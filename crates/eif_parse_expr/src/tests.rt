@@ -1,6 +1,6 @@
-use crate::{PartError, parse_compound, parse_expr, parse_type};
-use eif_lex::lex;
-use eif_tree::ExprKind;
+use crate::{Parsed, PartError, parse_compound, parse_expr, parse_type};
+use eif_lex::{Tokens, lex};
+use eif_tree::{Expr, ExprKind, Instr, Mark, TypeTree};
 use std::alloc::Global;
 
 /// What is read of a text: the number of the next token, the height, and the offset of the
@@ -78,40 +78,6 @@ const EXPRESSIONS: [(u32, &[u8], Reading); 56] = [
     (1, b"{y: T} x", At(0)),
 ];
 
-fn read_expression(alloc: Global, room: u32, text: &[u8]) -> Reading {
-    if text.len() > 1048576 || room == 0 || room > 400 {
-        return Nothing;
-    }
-    let Ok(tokens) = lex(alloc, 0, text) else {
-        return Nothing;
-    };
-    match parse_expr(alloc, &tokens, 0, room) {
-        Ok(x) => {
-            let sign = match x.tree.kind {
-                ExprKind::Binary { op_place, .. } => op_place.offset,
-                _ => 0,
-            };
-            Read(x.next, x.height, sign)
-        }
-        Err(PartError::At(at)) => At(at),
-        Err(PartError::Memory) => Nothing,
-    }
-}
-
-fn wrong_expression(alloc: Global, rows: &[(u32, &[u8], Reading)]) -> Option<usize> {
-    for i in 0..rows.len() {
-        if read_expression(alloc, rows[i].0, rows[i].1) != rows[i].2 {
-            return Some(i);
-        }
-    }
-    None
-}
-
-#[test]
-fn expressions_are_read(rt: HostRuntime) {
-    assert_eq!(rt; wrong_expression(rt.alloc(), &EXPRESSIONS), None);
-}
-
 /// The same of types.
 const TYPES: [(u32, &[u8], Reading); 12] = [
     (1, b"A", Read(1, 1, 0)),
@@ -127,34 +93,6 @@ const TYPES: [(u32, &[u8], Reading); 12] = [
     (9, b"A [B,]", At(4)),
     (1, b"A [B]", At(1)),
 ];
-
-fn read_type(alloc: Global, room: u32, text: &[u8]) -> Reading {
-    if text.len() > 1048576 || room == 0 || room > 400 {
-        return Nothing;
-    }
-    let Ok(tokens) = lex(alloc, 0, text) else {
-        return Nothing;
-    };
-    match parse_type(alloc, &tokens, 0, room) {
-        Ok(x) => Read(x.next, x.height, 0),
-        Err(PartError::At(at)) => At(at),
-        Err(PartError::Memory) => Nothing,
-    }
-}
-
-fn wrong_type(alloc: Global, rows: &[(u32, &[u8], Reading)]) -> Option<usize> {
-    for i in 0..rows.len() {
-        if read_type(alloc, rows[i].0, rows[i].1) != rows[i].2 {
-            return Some(i);
-        }
-    }
-    None
-}
-
-#[test]
-fn types_are_read(rt: HostRuntime) {
-    assert_eq!(rt; wrong_type(rt.alloc(), &TYPES), None);
-}
 
 /// The same of instructions in a row, with their count in the place of the offset.
 const COMPOUNDS: [(u32, &[u8], Reading); 31] = [
@@ -201,27 +139,66 @@ const COMPOUNDS: [(u32, &[u8], Reading); 31] = [
     (1, b"check a end", At(1)),
 ];
 
-fn read_compound(alloc: Global, room: u32, text: &[u8]) -> Reading {
+/// What is to be read.
+#[derive(Clone, Copy)]
+enum Part {
+    Type,
+    Expression,
+    Compound,
+}
+
+fn of_error(error: PartError) -> Reading {
+    match error {
+        PartError::At(at) => At(at),
+        PartError::Memory => Nothing,
+    }
+}
+
+fn of_type(read: Result<Parsed<TypeTree>, PartError>) -> Reading {
+    match read {
+        Ok(x) => Read(x.next, x.height, 0),
+        Err(error) => of_error(error),
+    }
+}
+
+fn of_expression(read: Result<Parsed<Expr>, PartError>) -> Reading {
+    match read {
+        Ok(x) => match x.tree.kind {
+            ExprKind::Binary { op_place, .. } => Read(x.next, x.height, op_place.offset),
+            _ => Read(x.next, x.height, 0),
+        },
+        Err(error) => of_error(error),
+    }
+}
+
+fn of_compound(read: Result<Parsed<Vec<Instr>>, PartError>) -> Reading {
+    match read {
+        Ok(x) => {
+            let count = u32::try_from(x.tree.len()).unwrap_or(u32::MAX);
+            Read(x.next, x.height, count)
+        }
+        Err(error) => of_error(error),
+    }
+}
+
+fn read(alloc: Global, part: Part, room: u32, text: &[u8]) -> Reading {
     if text.len() > 1048576 || room == 0 || room > 400 {
         return Nothing;
     }
     let Ok(tokens) = lex(alloc, 0, text) else {
         return Nothing;
     };
-    match parse_compound(alloc, &tokens, 0, room) {
-        Ok(x) => Read(
-            x.next,
-            x.height,
-            u32::try_from(x.tree.len()).unwrap_or(u32::MAX),
-        ),
-        Err(PartError::At(at)) => At(at),
-        Err(PartError::Memory) => Nothing,
+    match part {
+        Part::Type => of_type(parse_type(alloc, &tokens, 0, room)),
+        Part::Expression => of_expression(parse_expr(alloc, &tokens, 0, room)),
+        Part::Compound => of_compound(parse_compound(alloc, &tokens, 0, room)),
     }
 }
 
-fn wrong_compound(alloc: Global, rows: &[(u32, &[u8], Reading)]) -> Option<usize> {
+/// The number of the first row that is wrong.
+fn wrong_row(alloc: Global, part: Part, rows: &[(u32, &[u8], Reading)]) -> Option<usize> {
     for i in 0..rows.len() {
-        if read_compound(alloc, rows[i].0, rows[i].1) != rows[i].2 {
+        if read(alloc, part, rows[i].0, rows[i].1) != rows[i].2 {
             return Some(i);
         }
     }
@@ -229,6 +206,70 @@ fn wrong_compound(alloc: Global, rows: &[(u32, &[u8], Reading)]) -> Option<usize
 }
 
 #[test]
+fn expressions_are_read(rt: HostRuntime) {
+    assert_eq!(rt; wrong_row(rt.alloc(), Part::Expression, &EXPRESSIONS), None);
+}
+
+#[test]
+fn types_are_read(rt: HostRuntime) {
+    assert_eq!(rt; wrong_row(rt.alloc(), Part::Type, &TYPES), None);
+}
+
+#[test]
 fn compounds_are_read(rt: HostRuntime) {
-    assert_eq!(rt; wrong_compound(rt.alloc(), &COMPOUNDS), None);
+    assert_eq!(rt; wrong_row(rt.alloc(), Part::Compound, &COMPOUNDS), None);
+}
+
+fn is_call_of_x(tree: &Expr) -> bool {
+    match &tree.kind {
+        ExprKind::Unqualified { name, args } => name.text() == b"x".as_slice() && args.is_empty(),
+        _ => false,
+    }
+}
+
+fn is_class_a(tree: &TypeTree) -> bool {
+    tree.name.text() == b"a".as_slice()
+        && matches!(tree.mark, Mark::Plain)
+        && tree.actuals.is_empty()
+}
+
+/// The column of the local, where the tree tests x by the type A and gives it the local y.
+fn local_column(tree: &Expr) -> Option<u32> {
+    let ExprKind::Test {
+        type_tree: Some(written),
+        local: Some(local),
+        value,
+    } = &tree.kind
+    else {
+        return None;
+    };
+    if is_class_a(written) && local.name.text() == b"y".as_slice() && is_call_of_x(value) {
+        Some(local.place.column)
+    } else {
+        None
+    }
+}
+
+/// The same of the tree that all the tokens are.
+fn tested(alloc: Global, tokens: &Tokens<'_>) -> Option<u32> {
+    match parse_expr(alloc, tokens, 0, 400) {
+        Ok(x) if x.next == tokens.count() => local_column(&x.tree),
+        _ => None,
+    }
+}
+
+fn tested_in(alloc: Global, text: &[u8]) -> Option<u32> {
+    if text.len() > 1048576 {
+        return None;
+    }
+    match lex(alloc, 0, text) {
+        Ok(tokens) => tested(alloc, &tokens),
+        Err(_) => None,
+    }
+}
+
+#[test]
+fn object_tests_differ_in_places_alone(rt: HostRuntime) {
+    assert_eq!(rt; tested_in(rt.alloc(), b"{y: A} x"), Some(2));
+    assert_eq!(rt; tested_in(rt.alloc(), b"attached {A} x as y"), Some(19));
 }

@@ -1,23 +1,23 @@
--- The system of texts is lawful for a class whose procedures call declared names alone.
-use Rattle.std.proofs.Common.{◌≡◌, ℕ, true, List, [], ◌∷◌, ◌++◌, Some, None, refl, sym, ap, subst, ◌∙◌}
-use Rattle.std.specs.Prelude.{if◌then◌else◌, flat_map, map}
-use Rattle.std.specs.List.{AllByRecursion}
+-- The system of texts is lawful for a class whose routines have plain calls of declared names alone.
+use Rattle.std.proofs.Common.{◌≡◌, ℕ, ◌==◌, true, List, [], ◌∷◌, ◌++◌, length, Some, None, refl, ap, subst, ◌∙◌, arith}
+use Rattle.std.specs.Prelude.{if◌then◌else◌, flat_map}
+use Rattle.std.specs.List.{AllByRecursion, list_all}
 use Rattle.std.specs.Option.{option_map, option_and_then}
 use Rattle.std.specs.Str.{bytes_eq}
+use Rattle.eif_base.specs.declared.Fault.{Fault}
 use Rattle.eif_tree.specs.declared.NameAt.{NameAt}
-use Rattle.eif_tree.specs.Tree.{DeclT, ClassT}
-use Rattle.eif_tree.specs.Parts.{has_name, declarations, declared_names, body_of, called_in}
-use Rattle.eif_grammar.specs.Plain.{Procedure, calls_of, procedure_tree}
-use Rattle.eif_check.specs.Faults.{unknown_in}
+use Rattle.eif_tree.specs.Tree.{unqualified, no_exs, Ins, call, Inss, no_inss, and_ins, GroupT, KindT, routine, DeclT, ClassT}
+use Rattle.eif_tree.specs.Parts.{has_name, declarations, declared_names, body_of, called_by, called_in}
+use Rattle.eif_check.specs.Plain.{is_plain_call, has_plain_calls, is_plain_routine, is_plain_declaration}
+use Rattle.eif_check.specs.Faults.{unknown_in, unknown_of}
 use Rattle.eif_meaning.specs.System.{Origin, class_named, declaration_named, origin_of, bind_of, system_of}
-use Rattle.eif_sound.proofs.Tests.{bytes_same, finds, found_has, if_empty, append_empty}
-use Rattle.eif_sound.proofs.Lawful.{IsCall, AllFine, FineBody, Lawful}
+use Rattle.eif_sound.proofs.Tests.{bytes_same, and_left, and_right, finds, found_has, if_empty, append_empty}
+use Rattle.eif_sound.proofs.Lawful.{IsCall, Fine, AllFine, FineBody, Lawful}
 
 -- a declaration of class c as plain classes have them, whose calls are of declared names
 pub record IsOwn (c : ClassT) (b : DeclT) : Type 0 where
-  pub procedure : Procedure
-  pub is : b ≡ procedure_tree procedure
-  pub known : flat_map (unknown_in c (declared_names c) b) (called_in (body_of b.kind)) ≡ []
+  pub plain : is_plain_declaration b ≡ true
+  pub known : unknown_of c (declared_names c) b ≡ []
 
 -- a body of class c, whose name is k, on an object of that class
 pub record Runs (c : ClassT) (k d text : List ℕ) (b : DeclT) : Type 0 where
@@ -25,16 +25,31 @@ pub record Runs (c : ClassT) (k d text : List ℕ) (b : DeclT) : Type 0 where
   pub of_text : k ≡ text
   pub own : IsOwn c b
 
-pub all_own : (c : ClassT) (ps : List Procedure) → AllByRecursion (λ b. flat_map (unknown_in c (declared_names c) b) (called_in (body_of b.kind)) ≡ []) (map procedure_tree ps ++ []) → AllByRecursion (IsOwn c) (map procedure_tree ps ++ [])
-all_own c [] h = tt
-all_own c (p ∷ ps) h = (record { procedure = p; is = refl; known = h.0 }, all_own c ps h.1)
+pub all_own : (c : ClassT) (bs : List DeclT) → list_all is_plain_declaration bs ≡ true → AllByRecursion (λ b. unknown_of c (declared_names c) b ≡ []) bs → AllByRecursion (IsOwn c) bs
+all_own c [] p h = tt
+all_own c (b ∷ bs) p h = (record { plain = and_left (is_plain_declaration b) _ p; known = h.0 }, all_own c bs (and_right (is_plain_declaration b) _ p) h.1)
 
--- calls of declared names are fine
-calls_fine : (c : ClassT) (b : DeclT) (known : List ℕ → Type 0) → ((x : List ℕ) → has_name (declared_names c) x ≡ true → known x) → (ns : List NameAt) → flat_map (unknown_in c (declared_names c) b) (called_in (calls_of ns)) ≡ [] → AllFine known (calls_of ns)
-calls_fine c b known f [] h = tt
-calls_fine c b known f (n ∷ ns) h =
-    let e = append_empty (unknown_in c (declared_names c) b n) (flat_map (unknown_in c (declared_names c) b) (called_in (calls_of ns))) h in
-    (f n.name (if_empty (has_name (declared_names c) n.name) _ e.0), calls_fine c b known f ns e.1)
+-- bodies of plain calls of declared names are fine
+module _ (c : ClassT) (b : DeclT) (known : List ℕ → Type 0) (knows : (x : List ℕ) → has_name (declared_names c) x ≡ true → known x) where
+  abbrev unknown : List NameAt → List Fault
+  unknown ns = flat_map (unknown_in c (declared_names c) b) ns
+
+  call_fine : (i : Ins) (more : List NameAt) → is_plain_call i ≡ true → unknown (called_by i ++ more) ≡ [] → Fine known i × (unknown more ≡ [])
+  call_fine (call (unqualified p x no_exs)) more plain none =
+      let e = append_empty (unknown_in c (declared_names c) b (record { place = p; name = x })) (unknown more) none in
+      (knows x (if_empty (has_name (declared_names c) x) _ e.0), e.1)
+  call_fine _ more plain none = cc
+
+  calls_fine : (is : Inss) → has_plain_calls is ≡ true → unknown (called_in is) ≡ [] → AllFine known is
+  calls_fine no_inss plain none = tt
+  calls_fine (and_ins i is) plain none =
+      let e = call_fine i (called_in is) (and_left (is_plain_call i) _ plain) none in
+      (e.0, calls_fine is (and_right (is_plain_call i) _ plain) e.1)
+
+  body_fine : (arguments : List GroupT) (kind : KindT) → (length arguments == 0) ≡ true → is_plain_routine kind ≡ true → unknown (called_in (body_of kind)) ≡ [] → FineBody known arguments kind
+  body_fine [] (routine [] is) alone plain none = calls_fine is plain none
+  body_fine [] _ alone plain none = cc
+  body_fine (g ∷ gs) kind alone plain none = grind arith
 
 -- class c of the texts is found by its name k
 module _ (texts : List ClassT) (k : List ℕ) (c : ClassT) (found : class_named texts k ≡ Some c) where
@@ -62,8 +77,8 @@ module _ (texts : List ClassT) (k : List ℕ) (c : ClassT) (found : class_named 
 
     own_fine : (b : DeclT) → IsOwn c b → FineBody (IsCall (system_of texts) (Runs c k) k k) b.arguments b.kind
     own_fine b o =
-        subst (λ b. FineBody (IsCall (system_of texts) (Runs c k) k k) b.arguments b.kind) (sym o.is)
-        (calls_fine c b _ is_call o.procedure.calls (subst (λ g. flat_map (unknown_in c (declared_names c) b) (called_in (body_of g.kind)) ≡ []) o.is o.known))
+        let front = and_left _ _ (and_left _ _ o.plain) in
+        body_fine c b _ is_call b.arguments b.kind (and_right _ _ (and_left _ _ (and_left _ _ front))) (and_right _ _ front) o.known
 
     pub lawful : Lawful (system_of texts) (Runs c k)
     lawful = record {

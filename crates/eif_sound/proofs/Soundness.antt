@@ -1,14 +1,13 @@
 -- No run of a class without faults goes wrong.
-use Rattle.std.proofs.Common.{◌≡◌, ℕ, true, false, not, List, [], ◌∷◌, Some, None, refl, sym, ap, subst}
+use Rattle.std.proofs.Common.{◌≡◌, ℕ, true, false, not, List, [], ◌∷◌, Some, None, refl, sym, ap, subst, ◌∙◌}
 use Rattle.std.specs.Prelude.{if◌then◌else◌, cond}
-use Rattle.std.specs.List.{AllByRecursion}
+use Rattle.std.specs.List.{list_all}
 use Rattle.std.specs.Option.{option_map_or}
 use Rattle.eif_base.specs.declared.Fault.{Fault}
 use Rattle.eif_tree.specs.Tree.{DeclT, ClassT}
 use Rattle.eif_tree.specs.Parts.{has_name, declarations, declared_names, creator_names}
-use Rattle.eif_grammar.specs.Plain.{plain_tree}
 use Rattle.eif_check.specs.declared.Root.{Root}
-use Rattle.eif_check.specs.Plain.{is_plain, are_distinct}
+use Rattle.eif_check.specs.Plain.{is_plain, has_plain_form, is_plain_declaration, are_distinct}
 use Rattle.eif_check.specs.Faults.{root_class_faults, root_procedure_faults, unknown_name_faults, first_broken, class_faults}
 use Rattle.eif_meaning.specs.Values.{Store, Outcome, done, stopped, cut_off, wrong, no_feature}
 use Rattle.eif_meaning.specs.System.{System, class_named, system_of}
@@ -18,7 +17,7 @@ use Rattle.eif_sound.proofs.Tests.{same_bytes, bytes_same, and_left, and_right, 
 use Rattle.eif_sound.proofs.Keeps.{Safe}
 use Rattle.eif_sound.proofs.Lawful.{Bodies, Lawful}
 use Rattle.eif_sound.proofs.Bodies.{level_ok}
-use Rattle.eif_sound.proofs.OneClass.{IsOwn, Runs, all_own, declared, origin_is, runs, lawful}
+use Rattle.eif_sound.proofs.OneClass.{Runs, all_own, declared, origin_is, runs, lawful}
 
 not_wrong : {A : Type 0} (o : Outcome A) (q : Store → A → Type 0) → Safe o q → IsWrong (ran o) → ⊥
 not_wrong (done s a) q h w = w
@@ -55,20 +54,32 @@ judged root c h =
     let f = none_broken (root_procedure_faults root c) _ e.1 in
     record { root_class = same_bytes _ _ (if_empty _ _ e.0); root_procedure = if_empty _ _ f.0; names = f.1 }
 
--- in a plain class a creator is declared
-pub creator_declared : (c : ClassT) → is_plain c ≡ true → (x : List ℕ) → has_name (creator_names c) x ≡ true → has_name (declared_names c) x ≡ true
-creator_declared c h x here =
-    name_passes (λ y. has_name (declared_names c) y) (creator_names c) x (and_right (are_distinct (declared_names c)) _ (and_left _ _ (and_left _ _ (and_left _ _ (and_left _ _ (and_left _ _ h)))))) here
+-- what a run needs of a plain class
+pub record Plain (c : ClassT) : Type 0 where
+  pub effective : not c.is_deferred ≡ true
+  pub declarations_are : list_all is_plain_declaration (declarations c) ≡ true
+  pub creators_are : list_all (λ n. has_name (declared_names c) n.name) (creator_names c) ≡ true
+
+pub plain : (c : ClassT) → is_plain c ≡ true → Plain c
+plain c h =
+    let form = and_left (has_plain_form c) _ h in
+    let names = and_right (has_plain_form c) _ h in
+    record {
+      effective = and_left _ _ (and_left _ _ (and_left _ _ (and_left _ _ (and_left _ _ form))));
+      declarations_are = and_right _ _ (and_left _ _ form);
+      creators_are = and_right (are_distinct (declared_names c)) _ (and_left _ _ (and_left _ _ (and_left _ _ (and_left _ _ (and_left _ _ (and_left _ _ names))))));
+    }
 
 pub sound : Sound
-sound p root plain none n =
-    let c = plain_tree p in
+sound c root is_plain none n =
     let j = judged root c none in
+    let p = plain c is_plain in
+    let x = root.procedure_name in
     let found : class_named (c ∷ []) c.name ≡ Some c = ap (λ t. cond t (Some c) None) (bytes_same c.name) in
-    let own : AllByRecursion (IsOwn c) (declarations c) = all_own c p.procedures (flat_map_empty _ (declarations c) j.names) in
-    let b = declared (c ∷ []) c.name c found root.procedure_name (creator_declared c plain root.procedure_name j.root_procedure) in
-    subst (λ k. IsWrong (run n (system_of (c ∷ [])) k root.procedure_name) → ⊥) (sym j.root_class)
-    (run_ok (system_of (c ∷ [])) (Runs c c.name) (lawful (c ∷ []) c.name c found own) n c.name root.procedure_name c.name b.0
-    (ap (λ o. option_map_or (λ c. not c.is_deferred) o false) found)
-    (origin_is (c ∷ []) c.name c found root.procedure_name b.0 b.1)
-    (runs (c ∷ []) c.name c found own root.procedure_name b.0 b.1))
+    let own = all_own c (declarations c) p.declarations_are (flat_map_empty _ (declarations c) j.names) in
+    let b = declared (c ∷ []) c.name c found x (name_passes (has_name (declared_names c)) (creator_names c) x p.creators_are j.root_procedure) in
+    subst (λ k. IsWrong (run n (system_of (c ∷ [])) k x) → ⊥) (sym j.root_class)
+    (run_ok (system_of (c ∷ [])) (Runs c c.name) (lawful (c ∷ []) c.name c found own) n c.name x c.name b.0
+    (ap (λ o. option_map_or (λ c. not c.is_deferred) o false) found ∙ p.effective)
+    (origin_is (c ∷ []) c.name c found x b.0 b.1)
+    (runs (c ∷ []) c.name c found own x b.0 b.1))

@@ -1,6 +1,6 @@
 -- No run of a class without faults goes wrong.
 use Rattle.std.specs.Prelude.{◌≡◌, ℕ, true, [], ◌∷◌}
-use Rattle.eif_grammar.specs.Plain.{PlainClass, plain_tree}
+use Rattle.eif_tree.specs.Tree.{ClassT}
 use Rattle.eif_check.specs.declared.Root.{Root}
 use Rattle.eif_check.specs.Plain.{is_plain}
 use Rattle.eif_check.specs.Faults.{class_faults}
@@ -9,9 +9,9 @@ use Rattle.eif_meaning.specs.Run.{run, IsWrong}
 
 abbrev pub Sound : Type 0
 Sound =
-    (p : PlainClass) (root : Root)
-    → is_plain (plain_tree p) ≡ true
-    → class_faults root (plain_tree p) ≡ []
+    (c : ClassT) (root : Root)
+    → is_plain c ≡ true
+    → class_faults root c ≡ []
     → (n : ℕ)
-    → IsWrong (run n (system_of (plain_tree p ∷ [])) root.class_name root.procedure_name)
+    → IsWrong (run n (system_of (c ∷ [])) root.class_name root.procedure_name)
     → ⊥

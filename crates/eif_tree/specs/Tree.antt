@@ -1,6 +1,6 @@
 -- Class texts as plain data: what contracts speak of. No pointers, and a list in the place of each `Vec`.
 -- An assertion is its expression.
-use Rattle.std.specs.Prelude.{ℕ, Bool, List, Option}
+use Rattle.std.specs.Prelude.{ℕ, Bool, false, List, [], Option}
 use Rattle.eif_base.specs.declared.Place.{Place}
 use Rattle.eif_tree.specs.declared.tree.Mark.{Mark}
 use Rattle.eif_tree.specs.declared.tree.Op.{Op}
@@ -82,6 +82,10 @@ pub record FormalT : Type 0 where
 pub record ClientsT : Type 0 where
   pub stated : Bool
   pub names : List NameAt
+
+-- where no list is written
+abbrev pub no_clients : ClientsT
+no_clients = record { stated = false; names = [] }
 
 pub record ExportT : Type 0 where
   pub clients : ClientsT

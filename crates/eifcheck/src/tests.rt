@@ -21,7 +21,7 @@ struct Row {
     report: &'static [u8],
 }
 
-const ROWS: [Row; 12] = [
+const ROWS: [Row; 16] = [
     Row {
         root: "app.make",
         file: "app.e",
@@ -69,14 +69,14 @@ const ROWS: [Row; 12] = [
         file: "app.e",
         text: b"class APP\ncreate make\nfeature\n  make\n    do\n      run (Void)\n    end\n  run (x: detachable A)\n    do\n      x.put (Void)\n    end\nend\n",
         status: Status::Faults,
-        report: b"XYET - - app.e:1:1 -\nno 1 faults\n",
+        report: b"XYET app - app.e:1:7 -\nno 1 faults\n",
     },
     Row {
         root: "app.make",
         file: "app.e",
         text: b"class APP create make feature make do end Make do end end",
         status: Status::Faults,
-        report: b"XYET - - app.e:1:1 -\nno 1 faults\n",
+        report: b"XYET app - app.e:1:7 -\nno 1 faults\n",
     },
     Row {
         root: "nosuch.make",
@@ -90,7 +90,7 @@ const ROWS: [Row; 12] = [
         file: "e.e",
         text: b"",
         status: Status::Faults,
-        report: b"XYET - - e.e:1:1 -\nno 1 faults\n",
+        report: b"XSYN - - e.e:1:1 -\nno 1 faults\n",
     },
     Row {
         root: "app.make",
@@ -106,6 +106,60 @@ const ROWS: [Row; 12] = [
         status: Status::Faults,
         report: b"XOUT - - o.e:1:22 once\nno 1 faults\n",
     },
+    Row {
+        root: "app.make",
+        file: "app.e",
+        text: b"class APP create make feature make do make ( ) end end",
+        status: Status::Faults,
+        report: b"XSYN - - app.e:1:46 -\nno 1 faults\n",
+    },
+    Row {
+        root: "app.make",
+        file: "app.e",
+        text: b"class APP create {NONE} make feature make do go end feature {NONE} go do end end",
+        status: Status::Yes,
+        report: b"yes 1 classes\n",
+    },
+    Row {
+        root: "app.make",
+        file: "app.e",
+        text: b"class APP create {OUT} make feature make do end end",
+        status: Status::Faults,
+        report: b"XYET app - app.e:1:7 -\nno 1 faults\n",
+    },
+    Row {
+        root: "app.make",
+        file: "app.e",
+        text: b"deferred class APP create make feature make do end end",
+        status: Status::Faults,
+        report: b"XYET app - app.e:1:16 -\nno 1 faults\n",
+    },
+];
+
+/// Class texts that aren't plain, with the class's name at 1:7.
+const OTHER_FORMS: [&[u8]; 9] = [
+    b"class APP [G] create make feature make do end end",
+    b"class APP inherit ANY create make feature make do end end",
+    b"class APP create make create go feature make do end go do end end",
+    b"class APP create make, go feature make do end go do end end",
+    b"class APP create make feature make (a: ANY) do end end",
+    b"class APP create make feature make local a: ANY do end end",
+    b"class APP create make feature make do end a: ANY end",
+    b"class APP create make feature make require True do end end",
+    b"class APP create make feature make do end invariant True end",
+];
+
+/// How many bytes of `APP` there are behind each token but the last, and the report on them.
+const FRONTS: [(usize, &[u8]); 9] = [
+    (0, b"XSYN - - app.e:1:1 -\nno 1 faults\n"),
+    (5, b"XSYN - - app.e:1:6 -\nno 1 faults\n"),
+    (9, b"XSYN - - app.e:1:10 -\nno 1 faults\n"),
+    (16, b"XSYN - - app.e:2:7 -\nno 1 faults\n"),
+    (21, b"XSYN - - app.e:2:12 -\nno 1 faults\n"),
+    (29, b"XSYN - - app.e:3:8 -\nno 1 faults\n"),
+    (36, b"XSYN - - app.e:4:7 -\nno 1 faults\n"),
+    (43, b"XSYN - - app.e:5:7 -\nno 1 faults\n"),
+    (51, b"XSYN - - app.e:6:8 -\nno 1 faults\n"),
 ];
 
 /// Words that aren't those of a command, one list a row.
@@ -189,6 +243,62 @@ fn wrong_in_memory<R: Threads + Sync>(
         }
     }
     Ok(None)
+}
+
+/// Whether the check of that text from `app.make` finds faults, and reports so.
+fn is_faulty<R: Threads + Sync>(
+    rt: &R,
+    alloc: Global,
+    text: &[u8],
+    report: &[u8],
+) -> Result<bool, Fail> {
+    let words = ["--root", "app.make", "app.e"];
+    let mut texts = mem_texts(alloc, "app.e", text)?;
+    ends_so(rt, alloc, &words, &mut texts, Status::Faults, report)
+}
+
+/// The number of the first text that isn't told to be not plain.
+fn wrong_form<R: Threads + Sync>(
+    rt: &R,
+    alloc: Global,
+    rows: &[&[u8]],
+) -> Result<Option<usize>, Fail> {
+    let report = b"XYET app - app.e:1:7 -\nno 1 faults\n";
+    for i in 0..rows.len() {
+        if !is_faulty(rt, alloc, rows[i], report)? {
+            return Ok(Some(i));
+        }
+    }
+    Ok(None)
+}
+
+/// The number of the first front of `APP` that isn't told to break off at its end.
+fn wrong_front<R: Threads + Sync>(
+    rt: &R,
+    alloc: Global,
+    rows: &[(usize, &[u8])],
+) -> Result<Option<usize>, Fail> {
+    for i in 0..rows.len() {
+        let (length, report) = rows[i];
+        let front = APP.get(..length).ok_or("a front is too long")?;
+        if !is_faulty(rt, alloc, front, report)? {
+            return Ok(Some(i));
+        }
+    }
+    Ok(None)
+}
+
+/// A class text with an expression in so many parentheses.
+fn nested(alloc: Global, count: usize) -> Result<Vec<u8>, AllocError> {
+    let opening = vec![in alloc; b'('; count]?;
+    let closing = vec![in alloc; b')'; count]?;
+    let mut text = Vec::new(alloc);
+    text.extend_from_slice(b"class APP create make feature make local b: BOOLEAN do b := ")?;
+    text.extend_from_slice(&opening)?;
+    text.extend_from_slice(b"True")?;
+    text.extend_from_slice(&closing)?;
+    text.extend_from_slice(b" end end")?;
+    Ok(text)
 }
 
 fn sum_of(bytes: &[u8]) -> u64 {
@@ -325,6 +435,34 @@ fn systems_without_failures(rt: HostRuntime) -> Result<(), Fail> {
 fn systems_in_files(rt: HostRuntime) -> Result<(), Fail> {
     let wrong = wrong_over_files(&rt, rt.alloc(), &ROWS)?;
     assert_eq!(rt; wrong, None);
+    Ok(())
+}
+
+#[test]
+fn classes_that_are_not_plain(rt: HostRuntime) -> Result<(), Fail> {
+    let wrong = wrong_form(&rt, rt.alloc(), &OTHER_FORMS)?;
+    assert_eq!(rt; wrong, None);
+    Ok(())
+}
+
+#[test]
+fn texts_that_break_off(rt: HostRuntime) -> Result<(), Fail> {
+    let wrong = wrong_front(&rt, rt.alloc(), &FRONTS)?;
+    assert_eq!(rt; wrong, None);
+    Ok(())
+}
+
+#[test]
+fn trees_may_be_400_high(rt: HostRuntime) -> Result<(), Fail> {
+    let alloc = rt.alloc();
+    let text = nested(alloc, 398)?;
+    let report = b"XYET app - app.e:1:7 -\nno 1 faults\n";
+    let is_so = is_faulty(&rt, alloc, &text, report)?;
+    assert!(rt; is_so);
+    let text = nested(alloc, 399)?;
+    let report = b"XSYN - - app.e:1:459 -\nno 1 faults\n";
+    let is_so = is_faulty(&rt, alloc, &text, report)?;
+    assert!(rt; is_so);
     Ok(())
 }
 

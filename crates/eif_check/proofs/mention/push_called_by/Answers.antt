@@ -1,4 +1,4 @@
-use Rattle.std.proofs.Common.{◌≡◌, false, ◌==◌, ◌++◌, [], map, length, vec_len, rules, ap, sym, ◌∙◌}
+use Rattle.std.proofs.Common.{◌≡◌, false, ◌==◌, ◌++◌, map, length, vec_len, rules, ap, sym, ◌∙◌}
 use Rattle.std.proofs.lemmas.List.{length-map}
 use Rattle.eif_tree.specs.declared.Instr.{the_lemmas as instr_lemmas}
 use Rattle.eif_tree.specs.declared.Expr.{the_lemmas as expr_lemmas}
