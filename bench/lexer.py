@@ -1,14 +1,10 @@
 #!/usr/bin/env python3
 """Times the program on texts that the lexer reads whole, at a quarter, a half and all of a mebibyte.
 
-No text is a plain class, so each run is the lexer's scan and little else. Where the time is linear in
+No text begins a class text, so each run is the lexer's scan and little else. Where the time is linear in
 the text, the last column is near 2. Usage, at the top of the repository: python3 bench/lexer.py
 """
-import os
-import subprocess
-import sys
-import tempfile
-import time
+import timing
 
 PIECES = {
     "identifiers": b"abc ",
@@ -22,37 +18,11 @@ PIECES = {
     "blanks": b" \t\n",
     "almost verbatim": b'"[" ',
 }
-SIZES = [1 << 18, 1 << 19, 1 << 20]
-TOP = os.path.dirname(os.path.dirname(os.path.abspath(__file__)))
 
 
-def seconds(text):
-    """The least time of five runs on the text."""
-    with tempfile.TemporaryDirectory() as folder:
-        name = os.path.join(folder, "a.e")
-        with open(name, "wb") as out:
-            out.write(text)
-        best = float("inf")
-        for _ in range(5):
-            start = time.perf_counter()
-            run = subprocess.run(
-                [os.path.join(TOP, "eifcheck"), "--root", "a.make", name],
-                stdout=subprocess.PIPE,
-                check=False,
-            )
-            best = min(best, time.perf_counter() - start)
-            if run.returncode != 1:
-                sys.exit("status %d on %r" % (run.returncode, text[:20]))
-        return best
+def filled(piece):
+    """Texts of the piece again and again."""
+    return lambda size: (piece * (size // len(piece) + 1))[:size - size % len(piece)]
 
 
-def main():
-    subprocess.run([os.path.join(TOP, "eifcheck")], stderr=subprocess.DEVNULL, check=False)
-    print("%-24s %10s %10s %10s %8s" % ("text of", "256 KiB", "512 KiB", "1 MiB", "ratio"))
-    for label, piece in PIECES.items():
-        times = [seconds((piece * (size // len(piece) + 1))[:size - size % len(piece)]) for size in SIZES]
-        row = " ".join("%8.1fms" % (1000 * t) for t in times)
-        print("%-24s %s %8.2f" % (label, row, times[2] / times[1]))
-
-
-main()
+timing.table({label: filled(piece) for label, piece in PIECES.items()}, 1 << 23)
