@@ -82,15 +82,15 @@ pub enum Code {
     Xmrk,
     /// Operands of the wrong types.
     Xopr,
-    /// A word or symbol that the profile leaves out.
+    /// A token that the profile leaves out.
     Xout,
     /// A replicated routine uses a replicated feature.
     Xrep,
-    /// The grammar has no such text.
+    /// The tokens are no class text.
     Xsyn,
     /// A call is used as an instruction or expression that it is not.
     Xuse,
-    /// A form that this version does not check yet.
+    /// A class that this version does not judge yet.
     Xyet,
 }
 

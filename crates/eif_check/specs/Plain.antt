@@ -61,8 +61,9 @@ are_distinct (n ∷ ns) = not (has_name ns n.name) && are_distinct ns
 abbrev pub among : List (List ℕ) → List ℕ → Bool
 among names name = list_any (bytes_eq name) names
 
-abbrev pub kernel_names : List (List ℕ)
-kernel_names = codes "any" ∷ codes "integer" ∷ codes "boolean" ∷ codes "character" ∷ codes "string" ∷ codes "array" ∷ []
+-- names of the kernel's classes
+abbrev pub kernel_classes : List (List ℕ)
+kernel_classes = codes "any" ∷ codes "integer" ∷ codes "boolean" ∷ codes "character" ∷ codes "string" ∷ codes "array" ∷ []
 
 -- names of features that the kernel's classes have
 abbrev pub kernel_features : List (List ℕ)
@@ -77,21 +78,21 @@ abbrev pub client_names : ClassT → List NameAt
 client_names c = flat_map (λ part. part.clients.names) c.creators ++ flat_map (λ part. part.clients.names) c.features
 
 -- none of the names is that of a kernel feature
-abbrev pub name_no_kernel_feature : List NameAt → Bool
-name_no_kernel_feature ns = list_all (λ n. not (among kernel_features n.name)) ns
+abbrev pub names_no_kernel_feature : List NameAt → Bool
+names_no_kernel_feature ns = list_all (λ n. not (among kernel_features n.name)) ns
 
 -- of a class by its name and the names of its creators, of its declarations, of its calls and of its clients: the
--- declared names differ, the creators are declared, and nothing of the kernel is named
+-- declared names differ, the creators are declared, the class has no name of a kernel class, and no kernel feature is named
 abbrev pub has_plain_names : List ℕ → List NameAt → List NameAt → List NameAt → List NameAt → Bool
 has_plain_names name creators declared called clients =
     are_distinct declared
     && list_all (λ n. has_name declared n.name) creators
-    && not (among kernel_names name)
+    && not (among kernel_classes name)
     && not (among kernel_features name)
-    && name_no_kernel_feature creators
-    && name_no_kernel_feature declared
-    && name_no_kernel_feature called
-    && name_no_kernel_feature clients
+    && names_no_kernel_feature creators
+    && names_no_kernel_feature declared
+    && names_no_kernel_feature called
+    && names_no_kernel_feature clients
 
 -- ---- both
 

@@ -1,7 +1,6 @@
 //! The faults of a class text.
 
 ghost use Rattle.std.specs.Prelude.{◌≡◌, [], ◌∷◌, ◌++◌, map, flat_map, IfOk, OnOk};
-ghost use Rattle.eif_tree.specs.Parts as parts;
 ghost use Rattle.eif_tree.specs.View.{class_view, decl_view};
 ghost use Rattle.eif_check.specs.Mentions.{name_at};
 ghost use Rattle.eif_check.specs.Faults as spec;

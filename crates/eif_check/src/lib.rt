@@ -3,9 +3,11 @@
 
 mod check;
 mod faults;
+mod laws;
 mod mention;
 mod plain;
 mod root;
 
 pub use check::check_system;
+pub use laws::one_list_of_faults;
 pub use root::Root;

@@ -1,6 +1,6 @@
 //! Plain classes, which are all that this version judges.
 
-ghost use Rattle.std.specs.Prelude.{◌≡◌, not, map, flat_map, IfOk};
+ghost use Rattle.std.specs.Prelude.{◌≡◌, map, flat_map, IfOk};
 ghost use Rattle.std.specs.List.{list_all};
 ghost use Rattle.eif_tree.specs.Parts as parts;
 ghost use Rattle.eif_tree.specs.View.{assertion_view, class_view, creators_view, decl_view, exs_from, features_view, inss_from, instr_view, kind_view};
@@ -122,7 +122,7 @@ fn are_distinct(names: &[Mention<'_>]) -> bool
 }
 
 fn is_kernel_class(name: &Name) -> bool
-    ensures { result ≡ spec.among spec.kernel_names name.now }
+    ensures { result ≡ spec.among spec.kernel_classes name.now }
 {
     let text = name.text();
     text == b"any".as_slice()
@@ -142,7 +142,7 @@ fn is_kernel_feature(name: &Name) -> bool
 
 /// Whether no name of the list is that of a kernel feature.
 fn names_no_kernel_feature(names: &[Mention<'_>]) -> bool
-    ensures { result ≡ spec.name_no_kernel_feature (map name_at names.now) }
+    ensures { result ≡ spec.names_no_kernel_feature (map name_at names.now) }
 {
     'names: for mention in names {
         if is_kernel_feature(mention.name) {
@@ -174,7 +174,8 @@ fn called_names<'t>(alloc: Global, decls: &[&'t FeatureDecl]) -> Result<Vec<Ment
     Ok(out)
 }
 
-/// Whether the declared names differ, the creators are declared, and nothing of the kernel is named.
+/// Whether the declared names differ, the creators are declared, the class has no name of a kernel class, and no
+/// kernel feature is named.
 fn has_plain_names(
     name: &Name,
     creators: &[Mention<'_>],

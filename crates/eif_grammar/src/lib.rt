@@ -1,5 +1,5 @@
 //! The language as contracts speak of it: the tokens of a text and the grammar of class texts.
-//! All of it is definitions and laws, but for the types that name them.
+//! All of it is definitions, but for the types that name their parts.
 #![tactic(auto)]
 
 mod piece;

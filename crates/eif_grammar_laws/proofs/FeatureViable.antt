@@ -6,7 +6,7 @@ use Rattle.eif_grammar.specs.declared.terminal.Terminal.{Terminal}
 use Rattle.eif_grammar.specs.declared.terminal.Terminal.TheVariants as t
 use Rattle.eif_grammar.specs.Parts.{most_height}
 use Rattle.eif_grammar.specs.Goals
-use Rattle.eif_grammar.specs.Goals.{ClassGoal, class_goal}
+use Rattle.eif_grammar.specs.Goals.{class_goal}
 use Rattle.eif_grammar.specs.ClassRules.{creators_of, features_of, value_of, typed, several, routine_from, class_rule}
 use Rattle.eif_grammar_laws.proofs.Endings.{at_end}
 use Rattle.eif_grammar_laws.proofs.Closing.{not_here, ends_routine, ends_closes, other_second, other_closes}

@@ -5,7 +5,7 @@ use Rattle.eif_grammar.specs.declared.terminal.Terminal.TheVariants as t
 use Rattle.eif_grammar.specs.Parts.{most_height}
 use Rattle.eif_grammar.specs.SpelledClasses.{Clause, rename_clause, export_clause, undefine_clause, redefine_clause, select_clause}
 use Rattle.eif_grammar.specs.Goals
-use Rattle.eif_grammar.specs.Goals.{ClassGoal, class_goal}
+use Rattle.eif_grammar.specs.Goals.{class_goal}
 use Rattle.eif_grammar.specs.Reader.{next}
 use Rattle.eif_grammar.specs.ClassRules.{LiteralStart, plus, minus, no_literal, literal_start, literal_by, clause_start, go_on, clause_by, clauses_by, class_rule}
 use Rattle.eif_grammar_laws.proofs.Endings.{at_closing}

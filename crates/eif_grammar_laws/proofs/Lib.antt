@@ -50,6 +50,7 @@ pub mod NameComplete
 pub mod NameMeaning
 pub mod NoteComplete
 pub mod NoteMeaning
+pub mod OneFront
 pub mod OneReading
 pub mod ParentComplete
 pub mod ParentMeaning

@@ -1,7 +1,7 @@
 -- Which rules take a token wherever they end.
 use Rattle.std.proofs.Common.{◌≡◌, ℕ, true, Some, None, refl, inl, inr}
 use Rattle.eif_grammar.specs.Goals
-use Rattle.eif_grammar.specs.Goals.{TypeGoal, ExpressionGoal, InstructionGoal, ClassGoal, Goal, type_goal, expression_goal, instruction_goal, class_goal, token}
+use Rattle.eif_grammar.specs.Goals.{TypeGoal, ExpressionGoal, InstructionGoal, ClassGoal, type_goal, expression_goal, instruction_goal, class_goal, token}
 use Rattle.eif_grammar.specs.TypeRules.{TypeStart, with_mark, with_name, no_type, type_start, written_by, type_rule}
 use Rattle.eif_grammar.specs.ExpressionRules.{OperandStart, braced, attached, prefixed, chained, operand_start, operand_by, PrimaryStart, no_primary, primary_start, primary_by, expression_rule}
 use Rattle.eif_grammar.specs.InstructionRules.{InstructionStart, no_instruction, instruction_start, instruction_by, instruction_rule}

@@ -12,6 +12,10 @@ use Rattle.eif_grammar.specs.Parts.{most_height, TypePart, ExpressionPart, Compo
 abbrev pub ClassPart : List Token → List Token → ClassT → Type 0
 ClassPart tokens rest c = spells_class c tokens rest × (class_height c ≤ most_height)
 
+-- the first token past the longest front that begins a part is one
+abbrev pub OneFront : {X : Type 0} → (List Token → List Token → X → Type 0) → Type 0
+OneFront part = (tokens left other : List Token) → LongestFront part tokens left → LongestFront part tokens other → left ≡ other
+
 module _ (g : Goal) (part : List Token → List Token → Found g → Type 0) where
   -- what is found is a part, and the only one of all tokens that agree with these up to and with the next
   abbrev pub FindsOnly : Type 0
@@ -25,11 +29,12 @@ module _ (g : Goal) (part : List Token → List Token → Found g → Type 0) wh
   abbrev pub FindsEach : Type 0
   FindsEach = (x : Found g) (tokens rest : List Token) → part tokens rest x → Calls g tokens (got x rest)
 
--- the three together
+-- the four together
 pub record Reads (g : Goal) (part : List Token → List Token → Found g → Type 0) : Type 0 where
   pub each : FindsEach g part
   pub only : FindsOnly g part
   pub front : RefusesPastFront g part
+  pub one_front : OneFront part
 
 abbrev pub TypeLaws : Type 0
 TypeLaws = (room : ℕ) → 1 ≤ room → Reads (type_goal (written room)) (TypePart room)
@@ -45,6 +50,8 @@ pub record ClassLaws : Type 0 where
   pub reads : Reads (class_goal class_text) ClassPart
   -- tokens are one class text at most
   pub one : (tokens : List Token) (c d : ClassT) → Text tokens c → Text tokens d → c ≡ d
+  -- and the first token past the longest front that begins one is one
+  pub one_text_front : OneFront TextPart
   -- where the reading is refused, and where it leaves tokens, what is left begins with the first token past the
   -- longest front that begins a class text
   pub front_where_refused : (tokens left : List Token) → Calls (class_goal class_text) tokens (refused left) → LongestFront TextPart tokens left

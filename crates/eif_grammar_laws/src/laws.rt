@@ -3,7 +3,7 @@ ghost use Rattle.eif_grammar_laws.specs.Laws.{TypeLaws, ExpressionLaws, Compound
 /// Types, in every room from 1 on: each type that tokens begin with by the longest reading is read. What is
 /// read is such a type, and the only one of all tokens that agree with these up to and with the
 /// first that is left. Where the reading is refused, the tokens before begin a type within the room, and no
-/// tokens that agree with these up to and with the first that is left begin with one.
+/// tokens that agree with these up to and with the first that is left begin with one; there is one such place.
 pub fn type_laws()
     ensures { TypeLaws }
 {}

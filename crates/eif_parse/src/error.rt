@@ -4,9 +4,10 @@ use std::alloc::{AllocError, AllocFailed};
 /// Why tokens are no class text.
 #[derive(Debug, Drop)]
 pub enum ParseError {
-    /// The first word, symbol or pair that is left out, and how the report names it.
+    /// The place of the first token that is left out, and how the report names it.
     Left(Place, Name),
-    /// The tokens are not those of a class text.
+    /// The tokens are no class text. The place is that of the first token past the longest front that begins
+    /// one, or the text's end.
     Syntax(Place),
     Memory,
 }

@@ -1,6 +1,6 @@
 //! Routines: contracts and bodies.
 
-ghost use Rattle.std.specs.Prelude.{◌≢◌, ◌≤◌, map, drop, length};
+ghost use Rattle.std.specs.Prelude.{◌≢◌, ◌≤◌, drop, length};
 ghost use Rattle.std.specs.Option.{option_map};
 ghost use Rattle.eif_tree.specs.View.{decl_view, kind_view, type_view};
 ghost use Rattle.eif_grammar.specs.Goals as goal;

@@ -8,9 +8,10 @@ use eif_tree::{
 use std::alloc::{AllocError, Global};
 use std::test::Fail;
 
-/// Texts, and the class or the fault that they give. Of a class: its name, its formals behind `[`, each parent
-/// behind `^` with how many renamings, exports, undefined, redefined and selected names it has, its creators behind `!`,
-/// and each declaration behind `;` with what it is. Each name comes with its line and column.
+/// Texts, and the class or the fault that they give. Of a class: its name, its formals behind `[`, each parent behind
+/// `^` with how many renamings, exports, undefined, redefined and selected names it has, its creators behind `!`, and
+/// each declaration behind `;` with what it is and what its body calls. Each name but a parent's comes with its line
+/// and column.
 const TEXTS: [(&[u8], &[u8]); 33] = [
     (
         b"class APP\ncreate make\nfeature\n  make\n    do\n    end\nend\n",
@@ -80,7 +81,7 @@ const TEXTS: [(&[u8], &[u8]); 33] = [
     (b"class A feature x do once end end )", b"left once 1:22 "),
 ];
 
-/// Texts of systems that are worked out elsewhere, and the names of their classes.
+/// Class texts of many forms, and the names of their classes.
 const WORKED: [(&[u8], &[u8]); 44] = [
     (
         b"class APP\ncreate make\nfeature\n  make\n    do\n    end\nend\n",
@@ -352,7 +353,7 @@ fn shown_error(alloc: Global, error: ParseError) -> Result<Vec<u8>, AllocError> 
     }
 }
 
-/// The class of a text, or its fault.
+/// The class of a text, or its fault. No text here is stuck.
 fn parsed(alloc: Global, text: &[u8]) -> Result<ClassTree, ParseError> {
     if 1048576 < text.len() {
         return Err(ParseError::Memory);

@@ -105,7 +105,7 @@ pub fn assertions(
     Ok(Parsed { tree, next, height })
 }
 
-/// The invariants of a loop, if there are any.
+/// The assertions behind `invariant`, if it stands there.
 pub fn invariants(
     alloc: Global,
     tokens: &Tokens<'_>,

@@ -28,6 +28,7 @@ pub struct TestHead {
     pub local: Option<NameAt>,
 }
 
+/// Whether an object test begins with that terminal.
 pub fn begins_test(terminal: Terminal) -> bool
     ensures { result ≡ rule.begins_test terminal }
 {

@@ -6,7 +6,7 @@ ghost use Rattle.eif_grammar.specs.ExpressionRules as goal;
 ghost use Rattle.eif_grammar.specs.Forms as spec;
 ghost use Rattle.eif_grammar.specs.Outcomes.{Runs, got};
 ghost use Rattle.eif_grammar.specs.Spelling.{head};
-ghost use Rattle.eif_parse_expr.specs.Reads.{Taken, Leaves};
+ghost use Rattle.eif_parse_expr.specs.Reads.{Leaves};
 ghost use Rattle.eif_parse_expr.specs.Subrules as rule;
 
 use crate::look::{after, behind, place_at};

@@ -1,7 +1,7 @@
 use eif_base::Memory;
 use std::alloc::{AllocError, AllocFailed};
 
-/// A tree, the number of the token behind it, and its height.
+/// A tree, the number of the token behind it, and its height, or 0 for what has no height of its own.
 #[derive(Drop)]
 pub struct Parsed<X> {
     pub tree: X,

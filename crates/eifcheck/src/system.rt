@@ -1,5 +1,3 @@
-ghost use Rattle.std.specs.Prelude.{◌≡◌};
-
 use crate::command::eifcheck;
 use crate::status::Status;
 use eif_base::{FileTexts, OpenGate, OutSink};

@@ -1,4 +1,4 @@
-ghost use Rattle.std.specs.Prelude.{◌≡◌, ◌≢◌};
+ghost use Rattle.std.specs.Prelude.{◌≢◌};
 ghost use Rattle.eifcheck.specs.declared.status.Status.TheVariants.{ReadFault, WriteFault};
 
 use crate::system::complaint;
@@ -21,7 +21,7 @@ struct Row {
     report: &'static [u8],
 }
 
-const ROWS: [Row; 16] = [
+const ROWS: [Row; 17] = [
     Row {
         root: "app.make",
         file: "app.e",
@@ -56,6 +56,13 @@ const ROWS: [Row; 16] = [
         text: b"class APP create make feature make do b a end a do b end end",
         status: Status::Faults,
         report: b"VEEN app make app.e:1:39 b\nVEEN app a app.e:1:52 b\nno 2 faults\n",
+    },
+    Row {
+        root: "app.make",
+        file: "app.e",
+        text: b"class APP create make feature make do go stop end end",
+        status: Status::Faults,
+        report: b"VEEN app make app.e:1:39 go\nVEEN app make app.e:1:42 stop\nno 2 faults\n",
     },
     Row {
         root: "app.make",
@@ -137,7 +144,9 @@ const ROWS: [Row; 16] = [
 ];
 
 /// Class texts that aren't plain, with the class's name at 1:7.
-const OTHER_FORMS: [&[u8]; 9] = [
+const OTHER_FORMS: [&[u8]; 11] = [
+    b"class APP feature end",
+    b"class APP create make feature make do print end end",
     b"class APP [G] create make feature make do end end",
     b"class APP inherit ANY create make feature make do end end",
     b"class APP create make create go feature make do end go do end end",
@@ -149,7 +158,8 @@ const OTHER_FORMS: [&[u8]; 9] = [
     b"class APP create make feature make do end invariant True end",
 ];
 
-/// How many bytes of `APP` there are behind each token but the last, and the report on them.
+/// The lengths of the fronts of `APP` that end before its first token or with a token but its last, and the report on
+/// each.
 const FRONTS: [(usize, &[u8]); 9] = [
     (0, b"XSYN - - app.e:1:1 -\nno 1 faults\n"),
     (5, b"XSYN - - app.e:1:6 -\nno 1 faults\n"),

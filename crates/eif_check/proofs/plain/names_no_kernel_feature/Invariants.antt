@@ -1,7 +1,7 @@
 use Rattle.std.proofs.Common.{◌≡◌, map, drop}
 use Rattle.eif_check.specs.Mentions.{name_at}
-use Rattle.eif_check.specs.Plain.{name_no_kernel_feature}
+use Rattle.eif_check.specs.Plain.{names_no_kernel_feature}
 use Rattle.eif_check.proofs.plain.names_no_kernel_feature.Given as goal
 
 abbrev pub invariant-names : goal.invariant-names
-invariant-names l = name_no_kernel_feature (map name_at (drop l.mention-index l.names)) ≡ name_no_kernel_feature (map name_at l.names)
+invariant-names l = names_no_kernel_feature (map name_at (drop l.mention-index l.names)) ≡ names_no_kernel_feature (map name_at l.names)
