@@ -1,6 +1,7 @@
 -- Parents, and the clauses that change what is inherited.
-use Rattle.std.proofs.Common.{◌≡◌, ◌≢◌, ℕ, ◌<◌, ◌≤◌, ◌==◌, Bool, true, false, Some, None, List, [], ◌∷◌, drop, length, sym, subst, arith}
-use Rattle.std.specs.Prelude.{Option}
+use Rattle.std.proofs.Common.{◌≡◌, ◌≢◌, ℕ, ◌<◌, ◌≤◌, ◌==◌, Bool, true, false, Some, None, List, [], ◌∷◌, drop, length, refl, ap, sym, ◌∙◌, subst, arith}
+use Rattle.std.specs.Prelude.{Option, is_some}
+use Rattle.std.specs.Option.{option_map}
 use Rattle.eif_tree.specs.declared.RenamePair.{RenamePair}
 use Rattle.eif_tree.specs.Tree.{TypeT, ClientsT, ExportT, ParentT}
 use Rattle.eif_grammar.specs.declared.terminal.Terminal.{Terminal}
@@ -23,7 +24,8 @@ use Rattle.eif_parse_expr.specs.Subrules.{bind}
 use Rattle.eif_parse_expr.proofs.Bind.{bound, bound_refused}
 use Rattle.eif_parse_expr.proofs.Onward.{runs_shrink, token_takes, guard_takes, further}
 use Rattle.eif_parse_expr.proofs.Steps.{next_here, on_here}
-use Rattle.eif_parse.specs.Subrules.{clause, clause_with, clause_body}
+use Rattle.eif_parse.specs.declared.parents.ClauseKind.{ClauseKind}
+use Rattle.eif_parse.specs.Subrules.{clause_of, clause, clause_with, clause_body}
 use Rattle.eif_parse.proofs.Lists.{behind, part_first, part_and_semis_first}
 
 -- ---- renamings
@@ -52,6 +54,30 @@ one_more_export u c s brace d =
     (tail {g = class_goal more_exports} u (by_rule (on_found brace (tail {g = class_goal exports} u d)))))
 
 -- ---- one clause
+
+starts_clause : (x : Terminal) (c : Clause) → clause_start x ≡ Some c → begins_clause x ≡ true
+starts_clause t.Rename c e = refl
+starts_clause t.Export c e = refl
+starts_clause t.Undefine c e = refl
+starts_clause t.Redefine c e = refl
+starts_clause t.Select c e = refl
+starts_clause _ c e = cc
+
+starts_none : (x : Terminal) → clause_start x ≡ None → begins_clause x ≡ false
+starts_none t.Rename e = cc
+starts_none t.Export e = cc
+starts_none t.Undefine e = cc
+starts_none t.Redefine e = cc
+starts_none t.Select e = cc
+starts_none _ e = refl
+
+-- by the code's kind of the next token's terminal
+pub begins_is : (o : Option ClauseKind) {x y : Terminal} → option_map clause_of o ≡ clause_start y → y ≡ x → begins_clause x ≡ is_some o
+begins_is o {x} {y} e same = by_kind o (sym (e ∙ ap clause_start same))
+  where
+    by_kind : (o : Option ClauseKind) → clause_start x ≡ option_map clause_of o → begins_clause x ≡ is_some o
+    by_kind None e = starts_none x e
+    by_kind (Some k) e = starts_clause x (clause_of k) e
 
 pub clause_here : {p : ParentT} {c : Clause} {x : Terminal} {ts : List Token} {at after : ℕ} (u : Outcome ParentT) → clause_start (head (drop at ts)) ≡ Some c → (clause_length p c == 0) ≡ true
     → Taken x ts at after → Runs (clause_body p c) (drop after ts) u → Runs (clause p) (drop at ts) u

@@ -1,13 +1,13 @@
 //! Parents, and the clauses that change what is inherited.
 
-ghost use Rattle.std.specs.Prelude.{◌≡◌, ◌≤◌, ◌==◌, drop, length};
+ghost use Rattle.std.specs.Prelude.{◌≡◌, ◌≤◌, ◌==◌, drop, length, Some};
 ghost use Rattle.std.specs.Option.{option_map};
 ghost use Rattle.eif_tree.specs.View.{export_view, parent_view};
 ghost use Rattle.eif_grammar.specs.ClassRules as rules;
-ghost use Rattle.eif_grammar.specs.Forms as form;
 ghost use Rattle.eif_grammar.specs.Goals as goal;
 ghost use Rattle.eif_grammar.specs.Outcomes.{Calls, Runs};
 ghost use Rattle.eif_grammar.specs.SpelledClasses.{clause_length};
+ghost use Rattle.eif_grammar.specs.Spelling.{head};
 ghost use Rattle.eif_parse.specs.Subrules as rule;
 ghost use Rattle.eif_parse_expr.specs.Reads.{Reads};
 
@@ -195,36 +195,22 @@ fn clause_body(
     })
 }
 
-/// A clause. Each kind stands at most once.
+/// A clause of that kind, of which each stands at most once.
 fn clause(
     alloc: Global,
     tokens: &Tokens<'_>,
     from: u32,
     parent: ParentClause,
+    kind: ClauseKind,
 ) -> Result<Parsed<ParentClause>, PartError>
-    requires { from ≤ length tokens.now.tokens }
+    requires start { from ≤ length tokens.now.tokens }
+    requires begins { rules.clause_start (head (drop from tokens.now.tokens)) ≡ Some (rule.clause_of kind) }
     ensures { Reads (Runs (rule.clause (parent_view parent)) (drop from tokens.now.tokens)) parent_view tokens.now.tokens from result }
 {
-    let Some(kind) = clause_start(tokens.next_terminal(from)) else {
-        return Err(PartError::At(from));
-    };
     if !is_first(&parent, kind) {
         return Err(PartError::At(from));
     }
     clause_body(alloc, tokens, after(tokens, from), parent, kind)
-}
-
-fn begins_clause(terminal: Terminal) -> bool
-    ensures { result ≡ form.begins_clause terminal }
-{
-    matches!(
-        terminal,
-        Terminal::Rename
-            | Terminal::Export
-            | Terminal::Undefine
-            | Terminal::Redefine
-            | Terminal::Select
-    )
 }
 
 /// The clauses that follow, and the `end` behind them.
@@ -239,8 +225,8 @@ fn more_clauses(
 {
     let mut tree = parent;
     let mut next = from;
-    'clauses: while begins_clause(tokens.next_terminal(next)) {
-        let one = clause(alloc, tokens, next, tree)?;
+    'clauses: while let Some(kind) = clause_start(tokens.next_terminal(next)) {
+        let one = clause(alloc, tokens, next, tree, kind)?;
         tree = one.tree;
         next = one.next;
     }
@@ -266,7 +252,7 @@ fn parent(alloc: Global, tokens: &Tokens<'_>, from: u32) -> Result<Parsed<Parent
         Vec::new(alloc),
         Vec::new(alloc),
     );
-    if begins_clause(tokens.next_terminal(named.next)) {
+    if clause_start(tokens.next_terminal(named.next)).is_some() {
         return more_clauses(alloc, tokens, named.next, unchanged);
     }
     Ok(Parsed {
