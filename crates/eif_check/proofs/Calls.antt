@@ -1,5 +1,5 @@
 -- Calls that are instructions.
-use Rattle.std.proofs.Common.{◌≡◌, ℕ, false, ◌==◌, List, [], ◌∷◌, ◌++◌, length, refl, ap}
+use Rattle.std.proofs.Common.{◌≡◌, ℕ, false, ◌==◌, List, [], ◌∷◌, length, refl}
 use Rattle.eif_base.specs.declared.Place.{Place}
 use Rattle.eif_tree.specs.Tree.{Ex, call, unqualified}
 use Rattle.eif_tree.specs.View.{exs_from}
@@ -9,7 +9,3 @@ use Rattle.eif_tree.specs.Parts.{called_by}
 pub called_by-more : (p : Place) (n : List ℕ) (es : List Ex) → (length es == 0) ≡ false → called_by (call (unqualified p n (exs_from es))) ≡ []
 called_by-more p n [] e = cc
 called_by-more p n (x ∷ es) e = refl
-
-pub append_none : {A : Type 0} (xs : List A) → xs ++ [] ≡ xs
-append_none [] = refl
-append_none (x ∷ xs) = ap (λ ys. x ∷ ys) (append_none xs)

@@ -1,5 +1,6 @@
 -- Lists whose parts are read one by one.
-use Rattle.std.proofs.Common.{◌≡◌, List, [], ◌∷◌, ◌++◌, refl, ap}
+use Rattle.std.proofs.Common.{◌≡◌, List, [], ◌∷◌, ◌++◌, refl, ap, sym}
+use Rattle.std.proofs.lemmas.List.{append_assoc}
 use Rattle.eif_grammar.specs.Tokens.{Token}
 use Rattle.eif_grammar.specs.Goals.{Goal, Found, semis, instruction_goal}
 use Rattle.eif_grammar.specs.Reader.{Reader, done, call}
@@ -14,16 +15,8 @@ behind xs (got ys rest) = got (xs ++ ys) rest
 behind xs (refused rest) = refused rest
 behind xs stuck = stuck
 
-pub append-none : {A : Type 0} (xs : List A) → xs ++ [] ≡ xs
-append-none [] = refl
-append-none (x ∷ xs) = ap (λ ys. x ∷ ys) (append-none xs)
-
-pub append-more : {A : Type 0} (xs ys : List A) (x : A) → xs ++ x ∷ ys ≡ (xs ++ x ∷ []) ++ ys
-append-more [] ys x = refl
-append-more (y ∷ xs) ys x = ap (λ zs. y ∷ zs) (append-more xs ys x)
-
 pub behind-more : {A : Type 0} (xs : List A) (x : A) (u : Outcome (List A)) → behind xs (behind (x ∷ []) u) ≡ behind (xs ++ x ∷ []) u
-behind-more xs x (got ys rest) = ap (λ zs. got zs rest) (append-more xs ys x)
+behind-more xs x (got ys rest) = ap (λ zs. got zs rest) (sym (append_assoc xs (x ∷ []) ys))
 behind-more xs x (refused rest) = refl
 behind-more xs x stuck = refl
 

@@ -1,4 +1,5 @@
 use Rattle.std.proofs.Common.{◌≡◌, ◌≢◌, ◌<◌, ◌-◌, ◌++◌, ◌∷◌, [], drop, length, arith}
+use Rattle.std.proofs.lemmas.List.{append-nil}
 use Rattle.std.proofs.lemmas.Grind.{common_steps}
 use Rattle.eif_tree.specs.View.{decl_view}
 use Rattle.eif_grammar.specs.declared.terminal.Terminal.TheVariants as t
@@ -6,7 +7,7 @@ use Rattle.eif_grammar.specs.Goals.{declaration, declarations, class_goal}
 use Rattle.eif_grammar.specs.Outcomes.{got, refused, Calls}
 use Rattle.eif_grammar.specs.Spelling.{head}
 use Rattle.eif_parse.specs.Subrules.{decls_view}
-use Rattle.eif_parse.proofs.Lists.{behind, behind-more, append-none}
+use Rattle.eif_parse.proofs.Lists.{behind, behind-more}
 use Rattle.eif_parse.proofs.FeatureSteps.{declaration_onward, no_declarations, declarations_refused, more_declarations}
 use Rattle.eif_parse_expr.proofs.Steps.{relay}
 use Rattle.eif_parse.proofs.features.declarations.Goals as goal
@@ -39,5 +40,5 @@ pub returns : goal.returns
 returns c =
     let a = c.args in let all = a.tokens.now.tokens in let i = c.decls.invariant in let ts = drop c.decls.next all in let before = decls_view c.decls.tree in
     let other : head ts ≢ t.Identifier = λ same. let yes = c.is_at.ensures.1 same in let no = c.decls-test.false in cc in
-    let whole : Calls (class_goal declarations) (drop a.from all) (got before ts) = rw (append-none before) at (i.goes_on (got [] ts) (no_declarations other)) in
+    let whole : Calls (class_goal declarations) (drop a.from all) (got before ts) = rw (append-nil before) at (i.goes_on (got [] ts) (no_declarations other)) in
     record { outcome = whole; forward = i.forward; within = i.within }

@@ -1,4 +1,5 @@
 use Rattle.std.proofs.Common.{◌≡◌, ◌++◌, ◌∷◌, [], drop, arith}
+use Rattle.std.proofs.lemmas.List.{append-nil}
 use Rattle.std.proofs.lemmas.Grind.{common_steps}
 use Rattle.eif_tree.specs.Tree.{FeaturesT}
 use Rattle.eif_tree.specs.View.{clients_view}
@@ -7,7 +8,7 @@ use Rattle.eif_grammar.specs.Goals.{declarations, features, class_goal}
 use Rattle.eif_grammar.specs.Outcomes.{got, refused, Runs, Calls}
 use Rattle.eif_grammar_laws.proofs.Readers.{call_refused}
 use Rattle.eif_parse.specs.Subrules.{maybe_clients, decls_view, features_parts}
-use Rattle.eif_parse.proofs.Lists.{behind, behind-more, append-none}
+use Rattle.eif_parse.proofs.Lists.{behind, behind-more}
 use Rattle.eif_parse.proofs.FeatureSteps.{no_features, features_from, more_features}
 use Rattle.eif_parse_expr.proofs.Bind.{bound, bound_refused}
 use Rattle.eif_parse_expr.proofs.Steps.{relay}
@@ -45,5 +46,5 @@ parts-preserved c =
 pub returns : goal.returns
 returns c =
     let a = c.args in let i = c.parts.invariant in let ts = drop c.parts.next a.tokens.now.tokens in let before = features_parts c.parts.tree in
-    let whole : Calls (class_goal features) (drop a.from a.tokens.now.tokens) (got before ts) = rw (append-none before) at (i.goes_on (got [] ts) (no_features c.in_default.ensures)) in
+    let whole : Calls (class_goal features) (drop a.from a.tokens.now.tokens) (got before ts) = rw (append-nil before) at (i.goes_on (got [] ts) (no_features c.in_default.ensures)) in
     record { outcome = whole; forward = i.forward; within = i.within }

@@ -1,4 +1,5 @@
 use Rattle.std.proofs.Common.{◌≡◌, ◌≢◌, ◌<◌, ◌-◌, length, map, ◌++◌, ◌∷◌, [], drop, arith}
+use Rattle.std.proofs.lemmas.List.{append-nil}
 use Rattle.std.proofs.lemmas.Grind.{common_steps}
 use Rattle.eif_tree.specs.View.{group_view}
 use Rattle.eif_grammar.specs.declared.terminal.Terminal.TheVariants as t
@@ -7,7 +8,7 @@ use Rattle.eif_grammar.specs.Outcomes.{got, refused, Calls}
 use Rattle.eif_grammar.specs.Spelling.{head}
 use Rattle.eif_parse_expr.proofs.Steps.{relay}
 use Rattle.eif_parse.specs.Subrules.{groups_view}
-use Rattle.eif_parse.proofs.Lists.{behind, behind-more, append-none}
+use Rattle.eif_parse.proofs.Lists.{behind, behind-more}
 use Rattle.eif_parse.proofs.GroupSteps.{group_onward, no_local, local_refused, one_more_local}
 use Rattle.eif_parse.proofs.groups.local_groups.Goals as goal
 
@@ -41,5 +42,5 @@ returns c =
     let a = c.args in let all = a.tokens.now.tokens in let i = c.groups.invariant in let ts = drop c.groups.next all in
     let before = map group_view c.groups.tree.items in
     let other : head ts ≢ t.Identifier = λ same. let yes = c.is_at.ensures.1 same in let no = c.groups-test.false in cc in
-    let whole : Calls (class_goal local_groups) (drop a.from all) (got before ts) = rw (append-none before) at (i.goes_on (got [] ts) (no_local other)) in
+    let whole : Calls (class_goal local_groups) (drop a.from all) (got before ts) = rw (append-nil before) at (i.goes_on (got [] ts) (no_local other)) in
     record { outcome = whole; forward = i.forward; within = i.within }

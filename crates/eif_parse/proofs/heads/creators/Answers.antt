@@ -1,11 +1,12 @@
 use Rattle.std.proofs.Common.{◌≡◌, map, ◌++◌, ◌∷◌, [], drop, arith}
+use Rattle.std.proofs.lemmas.List.{append-nil}
 use Rattle.std.proofs.lemmas.Grind.{common_steps}
 use Rattle.eif_tree.specs.View.{clients_view, creators_view}
 use Rattle.eif_grammar.specs.Goals.{names, creators, class_goal}
 use Rattle.eif_grammar.specs.Outcomes.{got, refused, Runs, Calls}
 use Rattle.eif_parse_expr.proofs.Steps.{relay}
 use Rattle.eif_parse.specs.Subrules.{maybe_clients, names_view, creators_parts}
-use Rattle.eif_parse.proofs.Lists.{behind, behind-more, append-none}
+use Rattle.eif_parse.proofs.Lists.{behind, behind-more}
 use Rattle.eif_parse.proofs.HeadSteps.{no_creators, creators_unnamed, creators_refused, creators_part, creators_more}
 use Rattle.eif_parse.proofs.heads.creators.Goals as goal
 
@@ -39,5 +40,5 @@ pub returns : goal.returns
 returns c =
     let a = c.args in let all = a.tokens.now.tokens in let i = c.parts.invariant in let ts = drop c.parts.next all in
     let before = map creators_view c.parts.tree.items in
-    let whole : Calls (class_goal creators) (drop a.from all) (got before ts) = rw (append-none before) at (i.goes_on (got [] ts) (no_creators c.in_default.ensures)) in
+    let whole : Calls (class_goal creators) (drop a.from all) (got before ts) = rw (append-nil before) at (i.goes_on (got [] ts) (no_creators c.in_default.ensures)) in
     record { outcome = whole; forward = i.forward; within = i.within }

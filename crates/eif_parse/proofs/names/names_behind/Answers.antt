@@ -1,11 +1,12 @@
 use Rattle.std.proofs.Common.{◌≡◌, ◌++◌, ◌∷◌, [], drop, arith}
+use Rattle.std.proofs.lemmas.List.{append-nil}
 use Rattle.eif_grammar.specs.declared.terminal.Terminal.TheVariants as t
 use Rattle.eif_grammar.specs.Outcomes.{got, refused, Runs}
 use Rattle.eif_grammar.specs.Reader.{name_of}
 use Rattle.eif_parse_expr.specs.Reads.{first}
 use Rattle.eif_parse_expr.proofs.Steps.{relay_name, relay_token}
 use Rattle.eif_parse.specs.Subrules as rule
-use Rattle.eif_parse.proofs.Lists.{behind, behind-more, append-none}
+use Rattle.eif_parse.proofs.Lists.{behind, behind-more}
 use Rattle.eif_parse.proofs.NameSteps.{no_colon, colon_found, no_name_behind, one_more_behind}
 use Rattle.eif_parse.proofs.names.names_behind.Goals as goal
 
@@ -37,5 +38,5 @@ returns c =
     let a = c.args in let all = a.tokens.now.tokens in let i = c.names.invariant in let colon = c.in_ok-next.ensures in
     let before = c.names.tree.items in let rest = drop c.in_ok-next.next all in
     let whole : Runs (rule.names_behind a.names.items) (drop a.from all) (got before rest) =
-    rw (append-none before) at (i.goes_on (got [] rest) (colon_found c.in_default.ensures colon)) in
+    rw (append-nil before) at (i.goes_on (got [] rest) (colon_found c.in_default.ensures colon)) in
     record { outcome = whole; forward = omega (arith, i.forward, colon.behind); within = colon.within }
