@@ -1,0 +1,264 @@
+-- For each rule of the universe a class that breaks it, with exactly its faults, and one that keeps it. Above each
+-- stands its class text, which is one line of file 0; a second text is file 1.
+use Rattle.std.specs.Prelude.{◌≡◌, ◌↔◌, ℕ, zero, suc, ◌+◌, true, false, List, [], ◌∷◌, take, Some, None, is_some, codes}
+use Rattle.eif_base.specs.declared.code.Code.{Code}
+use Rattle.eif_base.specs.declared.code.Code.TheVariants as code
+use Rattle.eif_base.specs.declared.fault.Fault.{Fault}
+use Rattle.eif_base.specs.declared.place.Place.{Place}
+use Rattle.eif_base.specs.declared.root.Root.{Root}
+use Rattle.eif_tree.specs.declared.tree.Mark.TheVariants.{Plain}
+use Rattle.eif_tree.specs.Tree.{TypeT, type_at, no_types, and_type, no_inss, FormalT, ParentT, ClassT}
+use Rattle.eif_system.specs.TreeForms.{nowhere, inline, named, unmarked, detachable, bare_class, parent_clause, created_by, with_features, procedure, attribute_of}
+use Rattle.eif_system.specs.Universe.{universe, class_number}
+use Rattle.eif_system.specs.Graph.{IsProperAncestor, IsListOf}
+use Rattle.eif_system.specs.Inheritance.{graph_of}
+use Rattle.eif_rules.specs.FaultForms.{fault_in, fault_at}
+use Rattle.eif_rules.specs.UniverseRules.{IsOwnAncestor, text_faults, repeated_class, ClassBroken, root_faults}
+
+-- ---- class texts in a few words
+
+abbrev pub at : ℕ → Place
+at column = inline 0 column
+
+-- a type that is a name
+abbrev pub plain : ℕ → List ℕ → TypeT
+plain column name = unmarked (at column) name
+
+-- a type with one actual
+abbrev pub with_actual : ℕ → List ℕ → TypeT → TypeT
+with_actual column name actual = type_at (at column) (at column) Plain name (and_type actual no_types)
+
+-- a formal without a constraint
+abbrev pub formal : ℕ → List ℕ → FormalT
+formal column name = record { place = at column; name = name; constraint = None }
+
+abbrev pub constrained : ℕ → List ℕ → TypeT → FormalT
+constrained column name constraint = record { place = at column; name = name; constraint = Some constraint }
+
+-- class B end
+abbrev pub class_b : ClassT
+class_b = bare_class (at 7) (codes "b")
+
+-- class B feature f: .. end
+abbrev pub with_attribute : TypeT → ClassT
+with_attribute ty = record class_b { features = with_features (attribute_of (named (at 17) (codes "f")) ty ∷ []) }
+
+-- class B inherit .. end
+abbrev pub with_parent : TypeT → ClassT
+with_parent parent = record class_b { parents = parent_clause parent ∷ [] }
+
+-- class B [..] end
+abbrev pub with_formals : List FormalT → ClassT
+with_formals formals = record class_b { formals = formals }
+
+-- class B [..] inherit .. end
+abbrev pub with_formal_and_parent : FormalT → TypeT → ClassT
+with_formal_and_parent f parent = record (with_formals (f ∷ [])) { parents = parent_clause parent ∷ [] }
+
+-- the faults of the text of a class that is given alone
+abbrev pub faults_alone : ClassT → List Fault
+faults_alone c = text_faults (universe (c ∷ [])) c
+
+-- ---- written types
+
+-- ARRAY [ARRAY [.. ANY ..]], from that column on, with so many arrays
+abbrev pub arrays : ℕ → ℕ → TypeT
+arrays column zero = plain column (codes "any")
+arrays column (suc n) = with_actual column (codes "array") (arrays (column + 7) n)
+
+-- a fault in the feature f of the class B
+abbrev pub fault_in_attribute : Code → ℕ → ℕ → List ℕ → Fault
+fault_in_attribute code case column about = fault_in class_b (codes "f") code case (at column) about
+
+pub record TypeExamples : Type 0 where
+  -- VTCT.1: class B feature f: NOPE end
+  pub unknown_class : faults_alone (with_attribute (plain 20 (codes "nope")))
+      ≡ fault_in_attribute code.Vtct 1 20 (codes "nope") ∷ []
+  -- class B feature f: B end
+  pub known_class : faults_alone (with_attribute (plain 20 (codes "b"))) ≡ []
+  -- XGEN.1: class B feature f: ARRAY end
+  pub no_actual : faults_alone (with_attribute (plain 20 (codes "array")))
+      ≡ fault_in_attribute code.Xgen 1 20 (codes "array") ∷ []
+  -- class B feature f: ARRAY [ANY] end
+  pub one_actual : faults_alone (with_attribute (with_actual 20 (codes "array") (plain 27 (codes "any")))) ≡ []
+  -- class B feature f: ARRAY [NOPE] end
+  pub unknown_actual : faults_alone (with_attribute (with_actual 20 (codes "array") (plain 27 (codes "nope"))))
+      ≡ fault_in_attribute code.Vtct 1 27 (codes "nope") ∷ []
+  -- XMRK.1: class B feature f: detachable INTEGER end
+  pub marked_integer : faults_alone (with_attribute (detachable (at 20) (at 31) (codes "integer")))
+      ≡ fault_in_attribute code.Xmrk 1 20 (codes "integer") ∷ []
+  -- class B feature f: detachable STRING end
+  pub marked_string : faults_alone (with_attribute (detachable (at 20) (at 31) (codes "string"))) ≡ []
+  -- XLIM.4: class B feature f: ARRAY [ARRAY [.. ANY ..]] end, with 100 arrays and with 99
+  pub long_type : faults_alone (with_attribute (arrays 20 100))
+      ≡ fault_in_attribute code.Xlim 4 20 (codes "array") ∷ []
+  pub longest_type : faults_alone (with_attribute (arrays 20 99)) ≡ []
+
+-- ---- formals
+
+-- A, B, C, .., from that column and letter on, so many
+abbrev pub letters : ℕ → ℕ → ℕ → List FormalT
+letters column letter zero = []
+letters column letter (suc n) = formal column (letter ∷ []) ∷ letters (column + 3) (letter + 1) n
+
+-- class Z [A, B, C, ..] end, with so many formals
+abbrev pub with_letters : ℕ → ClassT
+with_letters n = record (bare_class (at 7) (codes "z")) { formals = letters 10 97 n }
+
+-- a fault in no feature of the class B
+abbrev pub fault_in_text : Code → ℕ → ℕ → List ℕ → Fault
+fault_in_text code case column about = fault_at class_b code case (at column) about
+
+pub record FormalExamples : Type 0 where
+  -- VCFG.1: class B [ANY] end
+  pub names_class : faults_alone (with_formals (formal 10 (codes "any") ∷ []))
+      ≡ fault_in_text code.Vcfg 1 10 (codes "any") ∷ []
+  -- class B [G] end
+  pub names_none : faults_alone (with_formals (formal 10 (codes "g") ∷ [])) ≡ []
+  -- VCFG.2: class B [G, G] end
+  pub repeated : faults_alone (with_formals (formal 10 (codes "g") ∷ formal 13 (codes "g") ∷ []))
+      ≡ fault_in_text code.Vcfg 2 13 (codes "g") ∷ []
+  -- class B [G, H] end
+  pub distinct : faults_alone (with_formals (formal 10 (codes "g") ∷ formal 13 (codes "h") ∷ [])) ≡ []
+  -- VCFG.3: class B [G, H -> G] end
+  pub formal_constraint :
+      faults_alone (with_formals (formal 10 (codes "g") ∷ constrained 13 (codes "h") (plain 18 (codes "g")) ∷ []))
+      ≡ fault_in_text code.Vcfg 3 18 (codes "g") ∷ []
+  -- class B [G -> ANY] end
+  pub class_constraint : faults_alone (with_formals (constrained 10 (codes "g") (plain 15 (codes "any")) ∷ [])) ≡ []
+  -- class B [G -> NOPE] end
+  pub unknown_constraint : faults_alone (with_formals (constrained 10 (codes "g") (plain 15 (codes "nope")) ∷ []))
+      ≡ fault_in_text code.Vtct 1 15 (codes "nope") ∷ []
+  -- XLIM.3: class Z [A, B, C, ..] end with 17 formals and with 16
+  pub many : faults_alone (with_letters 17) ≡ fault_at (with_letters 17) code.Xlim 3 (at 7) (codes "z") ∷ []
+  pub most : faults_alone (with_letters 16) ≡ []
+
+-- ---- parent clauses
+
+-- ANY ANY .., from that column on, so many
+abbrev pub any_clauses : ℕ → ℕ → List ParentT
+any_clauses column zero = []
+any_clauses column (suc n) = parent_clause (plain column (codes "any")) ∷ any_clauses (column + 4) n
+
+-- class B inherit ANY ANY .. end, with so many clauses
+abbrev pub with_any_clauses : ℕ → ClassT
+with_any_clauses n = record class_b { parents = any_clauses 17 n }
+
+-- class D end, in file 1
+abbrev pub class_d : ClassT
+class_d = bare_class (inline 1 7) (codes "d")
+
+-- class D inherit B end, in file 1
+abbrev pub class_d_below_b : ClassT
+class_d_below_b = record class_d { parents = parent_clause (unmarked (inline 1 17) (codes "b")) ∷ [] }
+
+-- class B inherit D end
+abbrev pub class_b_below_d : ClassT
+class_b_below_d = with_parent (plain 17 (codes "d"))
+
+-- the class B, whose number is 6, breaks VHPR.1 in its clause with that parent
+abbrev pub IsAboveItself : List ClassT → TypeT → Fault → Type 0
+IsAboveItself given parent f = IsOwnAncestor (universe given) 6 (with_parent parent) (parent_clause parent) f
+
+pub record ParentExamples : Type 0 where
+  -- VTCT.2: class B [G] inherit G end
+  pub formal_parent : faults_alone (with_formal_and_parent (formal 10 (codes "g")) (plain 21 (codes "g")))
+      ≡ fault_in_text code.Vtct 2 21 (codes "g") ∷ []
+  -- class B [G] inherit ANY end
+  pub class_parent : faults_alone (with_formal_and_parent (formal 10 (codes "g")) (plain 21 (codes "any"))) ≡ []
+  -- XKER.1: class B inherit STRING end
+  pub kernel_parent : faults_alone (with_parent (plain 17 (codes "string")))
+      ≡ fault_in_text code.Xker 1 17 (codes "string") ∷ []
+  -- class B inherit ANY end
+  pub any_parent : faults_alone (with_parent (plain 17 (codes "any"))) ≡ []
+  -- a formal hides the class of its name: class B [STRING] inherit STRING [ANY] end
+  pub hidden_class :
+      faults_alone (with_formal_and_parent (formal 10 (codes "string")) (with_actual 26 (codes "string") (plain 34 (codes "any"))))
+      ≡ fault_in_text code.Xgen 1 26 (codes "string") ∷ fault_in_text code.Vcfg 1 10 (codes "string")
+      ∷ fault_in_text code.Vtct 2 26 (codes "string") ∷ []
+  -- class B [ARRAY] inherit ARRAY end
+  pub hidden_generic : faults_alone (with_formal_and_parent (formal 10 (codes "array")) (plain 25 (codes "array")))
+      ≡ fault_in_text code.Vcfg 1 10 (codes "array") ∷ fault_in_text code.Vtct 2 25 (codes "array") ∷ []
+  -- VHPR.1: class B inherit B end
+  pub own_parent : (f : Fault) → IsAboveItself (with_parent (plain 17 (codes "b")) ∷ []) (plain 17 (codes "b")) f
+      ↔ (f ≡ fault_in_text code.Vhpr 1 17 (codes "b"))
+  -- class B inherit D end, class D inherit B end
+  pub own_ancestor : (f : Fault) → IsAboveItself (class_b_below_d ∷ class_d_below_b ∷ []) (plain 17 (codes "d")) f
+      ↔ (f ≡ fault_in_text code.Vhpr 1 17 (codes "d"))
+  -- class B inherit D end, class D end
+  pub no_own_ancestor : (f : Fault) → IsAboveItself (class_b_below_d ∷ class_d ∷ []) (plain 17 (codes "d")) f → ⊥
+  -- XLIM.1: class B inherit ANY ANY .. end with 65 clauses and with 64
+  pub many : faults_alone (with_any_clauses 65) ≡ fault_in_text code.Xlim 1 7 (codes "b") ∷ []
+  pub most : faults_alone (with_any_clauses 64) ≡ []
+  -- XLIM.2 counts proper ancestors: of class B inherit ANY end the one is ANY
+  pub one_ancestor : IsListOf (IsProperAncestor (graph_of (universe (with_any_clauses 1 ∷ []))) 6) (0 ∷ [])
+
+-- ---- classes of one name
+
+-- class B feature f: NOPE end, in file 1
+abbrev pub second_b : ClassT
+second_b = record (bare_class (inline 1 7) (codes "b")) {
+  features = with_features (attribute_of (named (inline 1 17) (codes "f")) (unmarked (inline 1 20) (codes "nope")) ∷ []);
+}
+
+-- class ANY end
+abbrev pub class_any : ClassT
+class_any = bare_class (at 7) (codes "any")
+
+pub record ClassExamples : Type 0 where
+  -- XDUP.1: class B end, class B feature f: NOPE end; the second is judged by nothing else
+  pub repeated : is_some (class_number (take 7 (universe (class_b ∷ second_b ∷ []))) (codes "b")) ≡ true
+  pub repeated_fault : (f : Fault) → ClassBroken (universe (class_b ∷ second_b ∷ [])) 7 second_b f
+      ↔ (f ≡ fault_at second_b code.Xdup 1 (inline 1 7) (codes "b"))
+  pub first : is_some (class_number (take 6 (universe (class_b ∷ second_b ∷ []))) (codes "b")) ≡ false
+  -- class ANY end
+  pub kernel_name : is_some (class_number (take 6 (universe (class_any ∷ []))) (codes "any")) ≡ true
+  pub kernel_name_fault : repeated_class class_any ≡ fault_at class_any code.Xdup 1 (at 7) (codes "any")
+  -- class B end, class D end
+  pub distinct : is_some (class_number (take 7 (universe (class_b ∷ class_d ∷ []))) (codes "d")) ≡ false
+
+-- ---- the root
+
+-- created by `make`
+abbrev pub root_of : List ℕ → Root
+root_of name = record { class_name = name; procedure_name = codes "make" }
+
+-- class B create make feature make do end end
+abbrev pub created_b : ClassT
+created_b = record class_b {
+  creators = created_by (named (at 16) (codes "make") ∷ []);
+  features = with_features (procedure (named (at 29) (codes "make")) no_inss ∷ []);
+}
+
+-- deferred class B end
+abbrev pub deferred_b : ClassT
+deferred_b = record (bare_class (at 16) (codes "b")) { is_deferred = true }
+
+-- deferred class B [G] end
+abbrev pub deferred_generic_b : ClassT
+deferred_generic_b = record deferred_b { formals = formal 19 (codes "g") ∷ [] }
+
+-- class STRING end
+abbrev pub class_string : ClassT
+class_string = bare_class (at 7) (codes "string")
+
+-- told of no place
+abbrev pub root_fault : List ℕ → Fault
+root_fault name = record { code = code.Vsrt; case = 1; class = name; feature = []; place = nowhere; about = name }
+
+pub record RootExamples : Type 0 where
+  -- the root B.make: class B create make feature make do end end
+  pub given : root_faults (created_b ∷ []) (root_of (codes "b")) ≡ []
+  -- VSRT.1: the root D.make of the same class
+  pub not_given : root_faults (created_b ∷ []) (root_of (codes "d")) ≡ root_fault (codes "d") ∷ []
+  -- the root STRING.make, which is a class of the kernel also where a text has its name: class STRING end
+  pub kernel_class : root_faults (class_string ∷ []) (root_of (codes "string")) ≡ root_fault (codes "string") ∷ []
+  -- VSRT.2: deferred class B end
+  pub is_deferred : root_faults (deferred_b ∷ []) (root_of (codes "b"))
+      ≡ fault_in_text code.Vsrt 2 16 (codes "b") ∷ []
+  -- VSRT.3: class B [G] end
+  pub is_generic : root_faults (with_formals (formal 10 (codes "g") ∷ []) ∷ []) (root_of (codes "b"))
+      ≡ fault_in_text code.Vsrt 3 7 (codes "b") ∷ []
+  -- deferred class B [G] end
+  pub is_both : root_faults (deferred_generic_b ∷ []) (root_of (codes "b"))
+      ≡ fault_in_text code.Vsrt 2 16 (codes "b") ∷ fault_in_text code.Vsrt 3 16 (codes "b") ∷ []

@@ -1,0 +1,2 @@
+//! What a system of classes is: definitions alone.
+#![tactic(auto)]
