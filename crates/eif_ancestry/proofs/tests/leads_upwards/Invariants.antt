@@ -1,0 +1,7 @@
+use Rattle.std.proofs.Common.{◌≡◌, ℕ, ◌<◌, true}
+use Rattle.eif_system.specs.Graph.{is_member, parents_of}
+use Rattle.eif_ancestry.specs.Ancestries.{number_graph}
+use Rattle.eif_ancestry.proofs.tests.leads_upwards.Given as goal
+
+abbrev pub invariant-loop-d : goal.invariant-loop-d
+invariant-loop-d l = (k p : ℕ) → k < l.d → is_member p (parents_of (number_graph l.graph) k) ≡ true → k < p

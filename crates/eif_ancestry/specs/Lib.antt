@@ -1,0 +1,2 @@
+pub mod Ancestries
+pub mod Walks

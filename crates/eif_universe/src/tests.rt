@@ -1,0 +1,4 @@
+mod class_numbers;
+mod text_faults;
+mod trees;
+mod universes;
