@@ -1,8 +1,8 @@
+pub mod Appends
 pub mod Causes
 pub mod Codes
 pub mod FileLists
 pub mod FileTexts
-pub mod Files
 pub mod MemSink
 pub mod MemTexts
 pub mod OutSink

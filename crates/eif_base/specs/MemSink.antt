@@ -1,8 +1,8 @@
 -- What is told of a sink in memory.
-use Rattle.std.specs.Prelude.{ℕ, ◌+◌, ◌-◌, ◌<◌, min, List, length, Option, IsSome, ◌⊎◌, unwrap_or}
+use Rattle.std.specs.Prelude.{ℕ, ◌-◌, ◌<◌, min, List, length, Option, IsSome, ◌⊎◌, unwrap_or}
 use Rattle.std.specs.Ordering.{nat_cmp}
 use Rattle.std.specs.BTreeMap.{get}
-use Rattle.eif_base.specs.Causes.{last_count}
+use Rattle.eif_base.specs.Causes.{next_count}
 use Rattle.eif_base.specs.declared.mem_sink.MemSink.{MemSink}
 
 -- what was written
@@ -27,7 +27,7 @@ faults s = s.faults
 
 -- the number of the next write of a piece that isn't empty, from 1
 abbrev pub next_write : MemSink → ℕ
-next_write s = min (writes s + 1) last_count
+next_write s = next_count (writes s)
 
 -- the room that is left
 abbrev pub room_left : MemSink → ℕ

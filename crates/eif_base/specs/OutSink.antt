@@ -1,7 +1,11 @@
--- What is told of the standard output as a sink.
+-- What is told of a writer as a sink.
 use Rattle.std.specs.Prelude.{ℕ}
 use Rattle.eif_base.specs.declared.out_sink.OutSink.{OutSink}
 
+-- the writer
+abbrev pub out : {W : Type 0} → OutSink W → W
+out s = s.out
+
 -- how often a write failed, up to the last count
-abbrev pub faults : {R : Type 0} → OutSink R → ℕ
+abbrev pub faults : {W : Type 0} → OutSink W → ℕ
 faults s = s.faults

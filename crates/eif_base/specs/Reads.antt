@@ -1,9 +1,14 @@
 -- The reads of a source of texts.
-use Rattle.std.specs.Prelude.{◌≡◌, ℕ, ◌<◌, ◌≤◌, List, [], ◌∷◌, ◌++◌, length, map, Option, IfSome}
+use Rattle.std.specs.Prelude.{◌≡◌, ℕ, ◌<◌, ◌≤◌, List, [], ◌∷◌, ◌++◌, length, map, Option, None, IfSome, Result, Ok, Err}
+use Rattle.std.specs.declared.io.Error.{Error}
+use Rattle.std.specs.declared.io.ErrorKind.{ErrorKind}
+use Rattle.std.specs.declared.io.ErrorKind.TheVariants.{OutOfMemory}
 use Rattle.eif_base.specs.declared.texts.Ended.{Ended}
 use Rattle.eif_base.specs.declared.texts.Ended.TheVariants as e
 use Rattle.eif_base.specs.declared.texts.ReadEnd.{ReadEnd}
 use Rattle.eif_base.specs.declared.texts.ReadEnd.TheVariants.{Whole, TooLong}
+use Rattle.eif_base.specs.declared.texts.ReadFail.{ReadFail}
+use Rattle.eif_base.specs.declared.texts.ReadFail.TheVariants as f
 
 -- how a read that gave Ok ended, as lists of reads have it
 abbrev pub ended_by : ReadEnd → Ended
@@ -33,3 +38,13 @@ abbrev pub ReadsInto : Option (List ℕ) → ℕ → List ℕ → List ℕ → R
 ReadsInto held most old new Whole = (bytes : List ℕ) × (new ≡ old ++ bytes) × (length bytes ≤ most) × IfSome held (λ h. bytes ≡ h)
 -- the name holds more than most bytes, and none was appended
 ReadsInto held most old new TooLong = (new ≡ old) × IfSome held (λ h. most < length h)
+
+-- why a read failed, by the kind of the system's error
+abbrev pub fail_of : ErrorKind → ReadFail
+fail_of OutOfMemory = f.Memory
+fail_of _ = f.Failed
+
+-- the bytes that a stream has left, where it was opened and that is told
+abbrev pub left_in : {S : Type 0} → (S → Option (List ℕ)) → Result S Error → Option (List ℕ)
+left_in remaining (Ok stream) = remaining stream
+left_in remaining (Err error) = None

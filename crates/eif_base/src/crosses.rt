@@ -3,6 +3,7 @@ use crate::fault::FaultList;
 use crate::memory::Memory;
 use crate::name::Name;
 use crate::place::Place;
+use crate::root::Root;
 
 fn crosses<T: Send>() {}
 
@@ -16,4 +17,5 @@ pub fn base_crosses() {
     is_shared::<Place>();
     is_shared::<Name>();
     is_shared::<Bytes>();
+    is_shared::<Root>();
 }

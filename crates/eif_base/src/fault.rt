@@ -1,4 +1,5 @@
-ghost use Rattle.std.specs.Prelude.{◌≡◌, ◌<◌, ◌≤◌, ◌++◌, ◌∷◌, [], Some, OnOk, OnErr, IfOk, take, length, slice_get, List};
+ghost use Rattle.std.specs.Prelude.{◌≡◌, ◌<◌, ◌≤◌, ◌++◌, ◌∷◌, [], Some, OnOk, OnErr, IfOk, IsTrue, ◌↔◌, take, length, slice_get, List};
+ghost use Rattle.std.specs.Slice.Iter.{iter_rest};
 ghost use Rattle.std.specs.List.Sorted.{IsPermutation, IsSortedByClosure};
 ghost use Rattle.std.specs.List.Retain.{IsDeduped};
 ghost use Rattle.std.specs.Fn.{CalledAtPairMut};
@@ -10,9 +11,10 @@ use crate::place::Place;
 use std::alloc::Global;
 use std::cmp::Ordering;
 use std::marker::Model;
+use std::slice::Iter;
 
 /// One breach of one rule. A missing name is empty. `case` is the number of the rule within its
-/// code: it takes no part in the report.
+/// code, from 1.
 #[derive(Debug, Drop)]
 pub struct Fault {
     pub code: Code,
@@ -94,6 +96,20 @@ impl FaultList {
         ensures { result ≡ length self.now }
     {
         self.faults.len()
+    }
+
+    /// Whether there is none.
+    pub fn is_empty(&self) -> bool
+        ensures { IsTrue result ↔ (self.now ≡ []) }
+    {
+        self.faults.is_empty()
+    }
+
+    /// The faults, in order.
+    pub fn iter(&self) -> Iter<'_, Fault>
+        ensures { iter_rest result ≡ self.now }
+    {
+        self.faults.iter()
     }
 
     /// The fault with that number, from 0.

@@ -2,6 +2,7 @@ ghost use Rattle.std.specs.Prelude.{◌≡◌, ◌<◌, ◌++◌, ◌∷◌, [],
 ghost use Rattle.eif_base.specs.FileLists.{names_of, texts_of};
 
 use crate::memory::Memory;
+use crate::place::NO_FILE;
 use std::alloc::Global;
 use std::marker::Model;
 
@@ -29,14 +30,15 @@ pub struct FileList {
 }
 
 impl Model for FileList {
-    ghost use Rattle.std.specs.Prelude.{List, ◌<◌, length};
+    ghost use Rattle.std.specs.Prelude.{List, ◌≤◌, length};
+    ghost use Rattle.eif_base.specs.declared.place.TheConstants.{NO_FILE};
     ghost use Rattle.eif_base.specs.FileLists.{NamedText};
 
     ghost Value = { List NamedText };
 
     ghost view = { λ l. l.files.items };
 
-    ghost invariant = { λ l. length l.files.items < 4294967296 };
+    ghost invariant = { λ l. length l.files.items ≤ NO_FILE };
 }
 
 impl FileList {
@@ -52,7 +54,7 @@ impl FileList {
 
     /// Adds a file at the end.
     pub fn push(&mut self, name: &str, text: Vec<u8>) -> Result<(), Memory>
-        requires { length self.old < 4294967295 }
+        requires { length self.old < NO_FILE }
         ensures ok { OnOk result (self.new ≡ self.old ++ record { name = name.now; text = text.items } ∷ []) }
         ensures err { OnErr result (self.new ≡ self.old) }
     {

@@ -1,14 +1,13 @@
-ghost use Rattle.std.specs.Prelude.{◌≡◌, ℕ, [], None, Ok, Err, OnErr, IfOk, ◌+◌, ◌≤◌, vec_len};
-ghost use Rattle.std.specs.Io.{StartsWith};
-ghost use Rattle.eif_base.specs.Reads.{ReadsInto};
-ghost use Rattle.eif_base.specs.declared.texts.ReadEnd.TheVariants.{Whole};
+ghost use Rattle.std.specs.Prelude.{◌≡◌, ℕ, [], None, Err, OnOk, OnErr, IfOk, ◌≤◌};
+ghost use Rattle.eif_base.specs.Causes.{HasRisen, next_count};
+ghost use Rattle.eif_base.specs.Reads.{AddsRead, ReadsInto, ended_by};
 
 use crate::read_log::ReadLog;
+use crate::streams::read_opened;
 use crate::texts::{Ended, ReadEnd, ReadFail, Texts};
 use std::alloc::Global;
-use std::io::{ErrorKind, Read};
+use std::fs;
 use std::rt::Files;
-use std::{fs, io};
 
 /// The files of the system as a source of texts: a name is a path. Each read that the system
 /// refuses or breaks off is a fault, save one for want of memory.
@@ -20,12 +19,12 @@ pub struct FileTexts<R> {
 }
 
 impl<R: Files> FileTexts<R> {
-    ghost use Rattle.eif_base.specs.FileTexts.{reads, faults};
+    ghost use Rattle.eif_base.specs.FileTexts as file;
 
     /// A source that has made no read yet. `alloc` is for the list of its reads.
     pub fn new(rt: R, alloc: Global) -> FileTexts<R>
-        ensures no_reads { reads result ≡ [] }
-        ensures no_faults { faults result ≡ 0 }
+        ensures no_reads { file.reads result ≡ [] }
+        ensures no_faults { file.faults result ≡ 0 }
     {
         FileTexts {
             rt,
@@ -50,9 +49,23 @@ impl<R: Files> Texts for FileTexts<R> {
         name: &str,
         most: u64,
         into: &mut Vec<u8>,
-    ) -> Result<ReadEnd, ReadFail> {
+    ) -> Result<ReadEnd, ReadFail>
+        // As every source, where nothing is told of what a name holds.
+        ensures ok { IfOk result (ReadsInto None most into.old.items into.new.items) }
+        ensures ok_read { IfOk result (λ end. AddsRead (file.reads self.old) (file.reads self.new) name.now (ended_by end)) }
+        ensures ok_faults { OnOk result (file.faults self.new ≡ file.faults self.old) }
+        ensures failed { result ≡ Err ReadFail.Failed → HasRisen (file.faults self.old) (file.faults self.new) }
+        ensures failed_read { result ≡ Err ReadFail.Failed → AddsRead (file.reads self.old) (file.reads self.new) name.now Ended.Failed }
+        ensures memory_read { result ≡ Err ReadFail.Memory → file.reads self.new ≡ file.reads self.old }
+        ensures memory_faults { result ≡ Err ReadFail.Memory → file.faults self.new ≡ file.faults self.old }
+        ensures err { OnErr result (into.new.items ≡ into.old.items) }
+        ensures never_falls { file.faults self.old ≤ file.faults self.new }
+
+        // A fault counts one.
+        ensures counted { result ≡ Err ReadFail.Failed → file.faults self.new ≡ next_count (file.faults self.old) }
+    {
         let before = into.len();
-        match read_file(&self.rt, name, most, into) {
+        match read_opened(fs::open(&self.rt, name), most, into) {
             Ok(end) => {
                 if self.log.push(alloc, name, end.ended()).is_err() {
                     into.truncate(before);
@@ -69,56 +82,5 @@ impl<R: Files> Texts for FileTexts<R> {
                 Err(ReadFail::Failed)
             }
         }
-    }
-}
-
-/// Appends the bytes of the file, of which there may be `most`.
-fn read_file<R: Files>(
-    rt: &R,
-    name: &str,
-    most: u64,
-    into: &mut Vec<u8>,
-) -> Result<ReadEnd, ReadFail>
-    ensures ok { IfOk result (ReadsInto None most into.old.items into.new.items) }
-    ensures err { OnErr result (into.new.items ≡ into.old.items) }
-{
-    let before = into.len();
-    match append_file(rt, name, most, into) {
-        Ok(ReadEnd::Whole) => Ok(ReadEnd::Whole),
-        end => {
-            into.truncate(before);
-            end
-        }
-    }
-}
-
-/// Appends the bytes of the file up to one more than `most`. After an error some may stand there.
-#[tactic(auto, using(crate::proofs::Appended::reads_into_starts))]
-fn append_file<R: Files>(
-    rt: &R,
-    name: &str,
-    most: u64,
-    into: &mut Vec<u8>,
-) -> Result<ReadEnd, ReadFail>
-    ensures appends { StartsWith into.new.items into.old.items }
-    ensures whole { result ≡ Ok Whole → ReadsInto None most into.old.items into.new.items Whole }
-{
-    let file = fs::open(rt, name).map_err(cause)?;
-    let count = file
-        .take(most.saturating_add(1))
-        .read_to_end(into)
-        .map_err(cause)?;
-    if count as u64 > most {
-        Ok(ReadEnd::TooLong)
-    } else {
-        Ok(ReadEnd::Whole)
-    }
-}
-
-/// What an error of the system means to the caller of a read.
-fn cause(error: io::Error) -> ReadFail {
-    match error.kind() {
-        ErrorKind::OutOfMemory => ReadFail::Memory,
-        _ => ReadFail::Failed,
     }
 }

@@ -3,12 +3,14 @@
 #![tactic(auto)]
 
 mod bytes;
+mod class_id;
 mod code;
 mod crosses;
 mod fault;
 mod file_list;
 mod file_texts;
 mod gate;
+pub mod limits;
 mod mem_sink;
 mod mem_texts;
 mod memory;
@@ -16,13 +18,16 @@ mod name;
 mod out_sink;
 mod place;
 mod read_log;
+mod root;
 mod sink;
+mod streams;
 mod sure_sink;
 mod sure_texts;
 mod text_map;
 mod texts;
 
 pub use bytes::Bytes;
+pub use class_id::ClassId;
 pub use code::Code;
 pub use crosses::base_crosses;
 pub use fault::{Fault, FaultList};
@@ -35,6 +40,7 @@ pub use memory::Memory;
 pub use name::Name;
 pub use out_sink::OutSink;
 pub use place::{NO_FILE, Place};
+pub use root::Root;
 pub use sink::{Sink, WriteFail};
 pub use sure_sink::SureSink;
 pub use sure_texts::SureTexts;

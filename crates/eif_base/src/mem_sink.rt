@@ -1,5 +1,5 @@
 ghost use Rattle.std.specs.Prelude.{◌≡◌, ◌≢◌, ℕ, ◌+◌, ◌≤◌, List, [], ◌++◌, take, length, Option, Some, None, Ok, IsErr, IfOk, OnOk, OnErr, nat_eq, if◌then◌else◌, vec_capacity};
-ghost use Rattle.eif_base.specs.Causes.{HasRisen};
+ghost use Rattle.eif_base.specs.Causes.{HasRisen, next_count};
 ghost use Rattle.eif_base.specs.Writes.{Writes, WritesFront};
 
 use crate::memory::Memory;
@@ -84,6 +84,7 @@ impl Sink for MemSink {
         // What a write of a piece that isn't empty does, exactly.
         ensures appends { mem.written self.new ≡ mem.written self.old ++ take (mem.taken self.old (length bytes.now)) bytes.now }
         ensures fails { bytes.now ≢ [] → mem.NextFails self.old (length bytes.now) → IsErr result }
+        ensures counted { OnErr result (mem.faults self.new ≡ next_count (mem.faults self.old)) }
         ensures only_then { OnErr result (mem.NextFails self.old (length bytes.now)) }
         ensures writes { bytes.now ≢ [] → mem.writes self.new ≡ mem.next_write self.old }
         ensures through { mem.through self.new ≡ mem.through self.old }

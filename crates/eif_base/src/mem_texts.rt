@@ -1,5 +1,5 @@
 ghost use Rattle.std.specs.Prelude.{◌≡◌, ℕ, ◌+◌, ◌≤◌, List, [], length, Some, None, Ok, Err, IsNone, IsTrue, IsErr, OnOk, OnErr, IfOk, ◌||◌, nat_eq, false, if◌then◌else◌, bytes_eq};
-ghost use Rattle.eif_base.specs.Causes.{HasRisen};
+ghost use Rattle.eif_base.specs.Causes.{HasRisen, next_count};
 ghost use Rattle.eif_base.specs.Reads.{Read, AddsRead, ReadsInto, ended_by};
 ghost use Rattle.eif_base.specs.MemTexts as mem;
 
@@ -112,6 +112,7 @@ impl Texts for MemTexts {
         // It fails exactly where the number was named or the name is absent, unless memory runs out.
         ensures only_then { result ≡ Err ReadFail.Failed → mem.NextFails self.old name.now }
         ensures fails { mem.NextFails self.old name.now → IsErr result }
+        ensures counted { result ≡ Err ReadFail.Failed → mem.faults self.new ≡ next_count (mem.faults self.old) }
         ensures fails_kept { mem.fails self.new ≡ mem.fails self.old }
     {
         let before = into.len();

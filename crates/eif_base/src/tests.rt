@@ -3,6 +3,7 @@ use crate::{
     OutSink, Place, ReadEnd, ReadFail, Sink, SureSink, SureTexts, Texts, WriteFail, base_crosses,
 };
 use std::fs;
+use std::io::{self, Write};
 use std::test::Fail;
 
 const CODES: [Code; 43] = [
@@ -88,6 +89,8 @@ fn lists_of_faults_grow(rt: HostRuntime) -> Result<(), Fail> {
     let mut more = FaultList::new(alloc);
     more.push(fault)?;
     faults.merge(&more)?;
+    assert!(rt; !faults.is_empty());
+    assert_eq!(rt; faults.iter().count(), 2);
     assert_eq!(rt; faults.count(), 2);
     assert_eq!(rt; faults.at(1).feature.text(), b"account_2".as_slice());
     base_crosses();
@@ -124,9 +127,44 @@ fn files_are_read_up_to_a_limit(rt: HostRuntime) -> Result<(), Fail> {
 
 #[test]
 fn standard_output_takes_pieces(rt: HostRuntime) {
-    let mut out = OutSink::new(&rt);
+    let mut out = OutSink::new(io::writer(&rt));
     assert_eq!(rt; out.write(b""), Ok(()));
     assert_eq!(rt; out.write(b"a piece\n"), Ok(()));
+}
+
+/// A writer that takes three bytes a piece, and none past its room.
+#[derive(Drop)]
+struct Narrow<'v> {
+    taken: &'v mut Vec<u8>,
+    room: usize,
+}
+
+impl Write for Narrow<'_> {
+    fn write(&mut self, bytes: &[u8]) -> io::Result<usize> {
+        let left = self.room.saturating_sub(self.taken.len());
+        let count = bytes.len().min(3).min(left);
+        self.taken.extend_from_slice(&bytes[..count])?;
+        Ok(count)
+    }
+
+    fn flush(&mut self) -> io::Result<()> {
+        Ok(())
+    }
+}
+
+#[test]
+fn a_writer_that_takes_no_more_is_a_fault(rt: HostRuntime) -> Result<(), Fail> {
+    let mut taken = Vec::new(rt.alloc());
+    let mut sink = OutSink::new(Narrow {
+        taken: &mut taken,
+        room: 12,
+    });
+    assert_eq!(rt; sink.write(b"yes 1 "), Ok(()));
+    assert_eq!(rt; sink.write(b"classes\n"), Err(WriteFail::Failed));
+    assert_eq!(rt; sink.write(b"\n"), Err(WriteFail::Failed));
+    assert_eq!(rt; sink.write(b""), Ok(()));
+    assert_eq!(rt; taken.as_slice(), b"yes 1 classe".as_slice());
+    Ok(())
 }
 
 #[test]

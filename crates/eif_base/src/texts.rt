@@ -3,6 +3,7 @@ ghost use Rattle.eif_base.specs.Causes.{HasRisen};
 ghost use Rattle.eif_base.specs.Reads.{Read, AddsRead, ReadsInto, ended_by};
 
 use std::alloc::Global;
+use std::io::{self, ErrorKind};
 
 /// How a read ended, for a list of reads.
 #[derive(Clone, Copy, Debug, PartialEq, Eq)]
@@ -39,6 +40,22 @@ pub enum ReadFail {
     /// The source failed, and counted that.
     Failed,
     Memory,
+}
+
+impl From<io::Error> for ReadFail {
+    ghost use Rattle.std.specs.Prelude.{◌≡◌};
+    ghost use Rattle.std.specs.IoError.{error_kind};
+    ghost use Rattle.eif_base.specs.Reads.{fail_of};
+
+    ghost from_gives = { λ error fail. fail ≡ fail_of (error_kind error) };
+
+    /// An error of the system is a failure, save one for want of memory.
+    fn from(error: io::Error) -> ReadFail {
+        match error.kind() {
+            ErrorKind::OutOfMemory => ReadFail::Memory,
+            _ => ReadFail::Failed,
+        }
+    }
 }
 
 /// A source of texts by name.

@@ -7,7 +7,7 @@ use Rattle.eif_grammar.specs.Tokens.{Token, TokenList, tokens_of, end_of}
 use Rattle.eif_grammar.specs.LeftOut.{left_out}
 use Rattle.eif_grammar.specs.Parts.{TextPart, OnlyText, left_place, IsSyntaxFault}
 use Rattle.eif_grammar_laws.proofs.OneFront.{one_front}
-use Rattle.eif_check.specs.declared.root.Root.{Root}
+use Rattle.eif_base.specs.declared.root.Root.{Root}
 use Rattle.eif_check.specs.Faults.{syntax_fault, tree_faults, GrammarFaults, TokenFaults, LexedFaults}
 use Rattle.eif_check.specs.OneList.{OneList}
 

@@ -5,15 +5,15 @@ use Rattle.eif_base.specs.declared.Place.{Place}
 use Rattle.eif_base.specs.declared.Fault.{Fault}
 use Rattle.eif_base.specs.declared.Code.{Code}
 use Rattle.eif_base.specs.declared.Code.TheVariants as code
-use Rattle.eif_base.specs.Files.{no_file}
+use Rattle.eif_base.specs.declared.place.TheConstants.{NO_FILE}
 use Rattle.eif_tree.specs.declared.NameAt.{NameAt}
 use Rattle.eif_tree.specs.Tree.{DeclT, ClassT}
-use Rattle.eif_tree.specs.Parts.{has_name, declarations, declared_names, creator_names, body_of, called_in}
+use Rattle.eif_tree.specs.Members.{has_name, declarations, declared_names, creator_names, body_of, called_in}
 use Rattle.eif_grammar.specs.Tokens.{Token, TokenList, tokens_of, end_of}
 use Rattle.eif_grammar.specs.Places.{place_at}
 use Rattle.eif_grammar.specs.LeftOut.{left_out, left_out_text}
 use Rattle.eif_grammar.specs.Parts.{OnlyText, IsSyntaxFault}
-use Rattle.eif_check.specs.declared.root.Root.{Root}
+use Rattle.eif_base.specs.declared.root.Root.{Root}
 use Rattle.eif_check.specs.Plain.{is_plain}
 
 -- ---- the text
@@ -43,7 +43,7 @@ yet_fault c = record { code = code.Xyet; case = 1; class = c.name; feature = [];
 -- ---- the root and the names of a class
 
 abbrev pub no_place : Place
-no_place = record { file = no_file; offset = 0; line = 0; column = 0 }
+no_place = record { file = NO_FILE; offset = 0; line = 0; column = 0 }
 
 -- VSRT: the root class is not the given class
 abbrev pub root_class_fault : Root → Fault

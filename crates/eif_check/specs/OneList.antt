@@ -1,7 +1,7 @@
 -- With one root a text has at most one list of faults.
 use Rattle.std.specs.Prelude.{◌≡◌, ℕ, List}
 use Rattle.eif_base.specs.declared.Fault.{Fault}
-use Rattle.eif_check.specs.declared.root.Root.{Root}
+use Rattle.eif_base.specs.declared.root.Root.{Root}
 use Rattle.eif_check.specs.Faults.{FaultsOf}
 
 abbrev pub OneList : Type 0

@@ -5,7 +5,7 @@ use Rattle.eif_base.specs.FileLists.{NamedText, names_of, texts_of}
 use Rattle.eif_report.specs.declared.Verdict.{Verdict}
 use Rattle.eif_report.specs.declared.Verdict.TheVariants as v
 use Rattle.eif_report.specs.Order.{In, Lists}
-use Rattle.eif_check.specs.declared.root.Root.{Root}
+use Rattle.eif_base.specs.declared.root.Root.{Root}
 use Rattle.eif_check.specs.Faults.{FaultsOf}
 
 -- Yes of so many class texts where there is no fault, and else exactly the faults in the order of a report

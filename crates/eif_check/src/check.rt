@@ -1,14 +1,14 @@
 ghost use Rattle.std.specs.Prelude.{◌≡◌, ◌≤◌, length, IfOk};
 ghost use Rattle.eif_base.specs.FileLists.{texts_of};
 ghost use Rattle.eif_tree.specs.View.{class_view};
-ghost use Rattle.eif_check.specs.Faults as spec;
+ghost use Rattle.eif_check.specs.Faults as broken;
 ghost use Rattle.eif_check.specs.Limits.{AreShort};
 ghost use Rattle.eif_check.specs.Verdicts.{IsVerdict};
 
 use crate::faults::{class_faults, no_name, only, text_fault, yet_fault};
 use crate::plain::is_plain;
-use crate::root::Root;
-use eif_base::{Code, Fault, FaultList, FileList, Gate, Memory, Place};
+use eif_base::limits::MOST_BYTES;
+use eif_base::{Code, Fault, FaultList, FileList, Gate, Memory, Place, Root};
 use eif_lex::{LexError, Tokens, lex};
 use eif_parse::{ParseError, parse_class};
 use eif_report::{Verdict, sort_faults};
@@ -17,20 +17,20 @@ use std::alloc::Global;
 use std::thread::Threads;
 
 fn stuck_fault(alloc: Global, place: Place) -> Result<Fault, Memory>
-    ensures { IfOk result (λ f. f ≡ spec.stuck_fault place) }
+    ensures { IfOk result (λ f. f ≡ broken.stuck_fault place) }
 {
     text_fault(alloc, Code::Xlex, place, no_name(alloc)?)
 }
 
 fn syntax_fault(alloc: Global, place: Place) -> Result<Fault, Memory>
-    ensures { IfOk result (λ f. f ≡ spec.syntax_fault place) }
+    ensures { IfOk result (λ f. f ≡ broken.syntax_fault place) }
 {
     text_fault(alloc, Code::Xsyn, place, no_name(alloc)?)
 }
 
 /// The faults of a class text.
 fn tree_faults(alloc: Global, tree: &ClassTree, root: &Root) -> Result<FaultList, Memory>
-    ensures { IfOk result (λ l. l ≡ spec.tree_faults root.now (class_view tree.now)) }
+    ensures { IfOk result (λ l. l ≡ broken.tree_faults root.now (class_view tree.now)) }
 {
     if is_plain(alloc, tree)? {
         class_faults(alloc, root, tree)
@@ -40,7 +40,7 @@ fn tree_faults(alloc: Global, tree: &ClassTree, root: &Root) -> Result<FaultList
 }
 
 fn token_faults(alloc: Global, tokens: &Tokens<'_>, root: &Root) -> Result<FaultList, Memory>
-    ensures { IfOk result (λ l. spec.ListFaults tokens.now root.now l) }
+    ensures { IfOk result (λ l. broken.ListFaults tokens.now root.now l) }
 {
     match parse_class(alloc, tokens) {
         Ok(tree) => tree_faults(alloc, &tree, root),
@@ -54,8 +54,8 @@ fn token_faults(alloc: Global, tokens: &Tokens<'_>, root: &Root) -> Result<Fault
 
 /// The faults of a text, which is that of the file with that number.
 fn text_faults(alloc: Global, file: u32, text: &[u8], root: &Root) -> Result<FaultList, Memory>
-    requires { length text.now ≤ 1048576 }
-    ensures { IfOk result (λ l. spec.FaultsOf file text.now root.now l) }
+    requires { length text.now ≤ MOST_BYTES }
+    ensures { IfOk result (λ l. broken.FaultsOf file text.now root.now l) }
 {
     match lex(alloc, file, text) {
         Ok(tokens) => token_faults(alloc, &tokens, root),
@@ -79,7 +79,7 @@ pub fn check_system<R: Threads + Sync, G: Gate + Sync>(
     ensures { IfOk result (IsVerdict files.now root.now) }
 {
     let mut faults = text_faults(alloc, 0, files.text(0), root)?;
-    if faults.count() == 0 {
+    if faults.is_empty() {
         return Ok(Verdict::Yes(files.count()));
     }
     sort_faults(&mut faults, files);

@@ -3,11 +3,10 @@
 ghost use Rattle.std.specs.Prelude.{◌≡◌, [], ◌∷◌, ◌++◌, map, flat_map, IfOk, OnOk};
 ghost use Rattle.eif_tree.specs.View.{class_view, decl_view};
 ghost use Rattle.eif_check.specs.Mentions.{name_at};
-ghost use Rattle.eif_check.specs.Faults as spec;
+ghost use Rattle.eif_check.specs.Faults as broken;
 
 use crate::mention::{Mention, creator_names, declarations, declared_names, has_name, push_called};
-use crate::root::Root;
-use eif_base::{Code, Fault, FaultList, Memory, NO_FILE, Name, Place};
+use eif_base::{Code, Fault, FaultList, Memory, NO_FILE, Name, Place, Root};
 use eif_tree::{ClassTree, FeatureDecl, NameAt};
 use std::alloc::Global;
 
@@ -20,7 +19,7 @@ pub fn no_name(alloc: Global) -> Result<Name, Memory>
 
 /// A fault that is told of no class and no feature.
 pub fn text_fault(alloc: Global, code: Code, place: Place, about: Name) -> Result<Fault, Memory>
-    ensures { IfOk result (λ f. f ≡ spec.text_fault code place about) }
+    ensures { IfOk result (λ f. f ≡ broken.text_fault code place about) }
 {
     Ok(Fault {
         code,
@@ -43,7 +42,7 @@ pub fn only(alloc: Global, fault: Fault) -> Result<FaultList, Memory>
 
 /// The fault of a class that is not plain.
 pub fn yet_fault(alloc: Global, tree: &ClassTree) -> Result<Fault, Memory>
-    ensures { IfOk result (λ f. f ≡ spec.yet_fault (class_view tree.now)) }
+    ensures { IfOk result (λ f. f ≡ broken.yet_fault (class_view tree.now)) }
 {
     Ok(Fault {
         code: Code::Xyet,
@@ -56,7 +55,7 @@ pub fn yet_fault(alloc: Global, tree: &ClassTree) -> Result<Fault, Memory>
 }
 
 fn root_class_fault(alloc: Global, root: &Root) -> Result<Fault, Memory>
-    ensures { IfOk result (λ f. f ≡ spec.root_class_fault root.now) }
+    ensures { IfOk result (λ f. f ≡ broken.root_class_fault root.now) }
 {
     Ok(Fault {
         code: Code::Vsrt,
@@ -74,7 +73,7 @@ fn root_class_fault(alloc: Global, root: &Root) -> Result<Fault, Memory>
 }
 
 fn root_procedure_fault(alloc: Global, root: &Root, tree: &ClassTree) -> Result<Fault, Memory>
-    ensures { IfOk result (λ f. f ≡ spec.root_procedure_fault root.now (class_view tree.now)) }
+    ensures { IfOk result (λ f. f ≡ broken.root_procedure_fault root.now (class_view tree.now)) }
 {
     Ok(Fault {
         code: Code::Vsrp,
@@ -88,7 +87,7 @@ fn root_procedure_fault(alloc: Global, root: &Root, tree: &ClassTree) -> Result<
 
 /// The name of a declaration that faults in it are told of.
 fn feature_name(alloc: Global, names: &[NameAt]) -> Result<Name, Memory>
-    ensures { IfOk result (λ n. n ≡ spec.feature_name names.now) }
+    ensures { IfOk result (λ n. n ≡ broken.feature_name names.now) }
 {
     match names.first() {
         Some(first) => first.name.copy(alloc),
@@ -102,7 +101,7 @@ fn unknown_name_fault(
     decl: &FeatureDecl,
     mention: &Mention<'_>,
 ) -> Result<Fault, Memory>
-    ensures { IfOk result (λ f. f ≡ spec.unknown_name_fault (class_view tree.now) (decl_view decl.now) (name_at mention.now)) }
+    ensures { IfOk result (λ f. f ≡ broken.unknown_name_fault (class_view tree.now) (decl_view decl.now) (name_at mention.now)) }
 {
     Ok(Fault {
         code: Code::Veen,
@@ -123,7 +122,7 @@ fn push_unknown(
     declared: &[Mention<'_>],
     called: &[Mention<'_>],
 ) -> Result<(), Memory>
-    ensures { OnOk result (out.new ≡ out.old ++ flat_map (spec.unknown_in (class_view tree.now) (map name_at declared.now) (decl_view decl.now)) (map name_at called.now)) }
+    ensures { OnOk result (out.new ≡ out.old ++ flat_map (broken.unknown_in (class_view tree.now) (map name_at declared.now) (decl_view decl.now)) (map name_at called.now)) }
 {
     'called: for mention in called {
         if !has_name(declared, mention.name) {
@@ -140,7 +139,7 @@ fn push_unknown_in(
     decl: &FeatureDecl,
     declared: &[Mention<'_>],
 ) -> Result<(), Memory>
-    ensures { OnOk result (out.new ≡ out.old ++ spec.unknown_of (class_view tree.now) (map name_at declared.now) (decl_view decl.now)) }
+    ensures { OnOk result (out.new ≡ out.old ++ broken.unknown_of (class_view tree.now) (map name_at declared.now) (decl_view decl.now)) }
 {
     let mut called = Vec::new(alloc);
     push_called(&mut called, decl)?;
@@ -148,7 +147,7 @@ fn push_unknown_in(
 }
 
 fn unknown_name_faults(alloc: Global, tree: &ClassTree) -> Result<FaultList, Memory>
-    ensures { IfOk result (λ l. l ≡ spec.unknown_name_faults (class_view tree.now)) }
+    ensures { IfOk result (λ l. l ≡ broken.unknown_name_faults (class_view tree.now)) }
 {
     let decls = declarations(alloc, tree)?;
     let declared = declared_names(alloc, &decls)?;
@@ -161,7 +160,7 @@ fn unknown_name_faults(alloc: Global, tree: &ClassTree) -> Result<FaultList, Mem
 
 /// The breaches of the first rule that has any.
 pub fn class_faults(alloc: Global, root: &Root, tree: &ClassTree) -> Result<FaultList, Memory>
-    ensures { IfOk result (λ l. l ≡ spec.class_faults root.now (class_view tree.now)) }
+    ensures { IfOk result (λ l. l ≡ broken.class_faults root.now (class_view tree.now)) }
 {
     if root.class_name != tree.name {
         return only(alloc, root_class_fault(alloc, root)?);

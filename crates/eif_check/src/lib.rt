@@ -6,8 +6,6 @@ mod faults;
 mod laws;
 mod mention;
 mod plain;
-mod root;
 
 pub use check::check_system;
 pub use laws::one_list_of_faults;
-pub use root::Root;

@@ -1,7 +1,7 @@
 //! The names of a class text, by their parts.
 
 ghost use Rattle.std.specs.Prelude.{◌≡◌, ◌++◌, map, flat_map, IfOk, OnOk};
-ghost use Rattle.eif_tree.specs.Parts as parts;
+ghost use Rattle.eif_tree.specs.Members as parts;
 ghost use Rattle.eif_tree.specs.View.{class_view, creators_view, decl_view, features_view, kind_view, inss_from, instr_view};
 ghost use Rattle.eif_check.specs.Mentions.{name_at};
 ghost use Rattle.eif_check.specs.Plain as plain;

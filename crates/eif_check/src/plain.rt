@@ -2,10 +2,10 @@
 
 ghost use Rattle.std.specs.Prelude.{◌≡◌, map, flat_map, IfOk};
 ghost use Rattle.std.specs.List.{list_all};
-ghost use Rattle.eif_tree.specs.Parts as parts;
+ghost use Rattle.eif_tree.specs.Members as parts;
 ghost use Rattle.eif_tree.specs.View.{assertion_view, class_view, creators_view, decl_view, exs_from, features_view, inss_from, instr_view, kind_view};
 ghost use Rattle.eif_check.specs.Mentions.{name_at};
-ghost use Rattle.eif_check.specs.Plain as spec;
+ghost use Rattle.eif_check.specs.Plain as plain;
 
 use crate::mention::{
     Mention, client_names, creator_names, declarations, declared_names, has_name, push_called,
@@ -17,14 +17,14 @@ use eif_tree::{
 use std::alloc::Global;
 
 fn no_assertions(claims: &[Assertion]) -> bool
-    ensures { result ≡ spec.no_assertions (exs_from (map assertion_view claims.now)) }
+    ensures { result ≡ plain.no_assertions (exs_from (map assertion_view claims.now)) }
 {
     claims.is_empty()
 }
 
 /// Whether it is an unqualified call without arguments.
 fn is_plain_call(instr: &Instr) -> bool
-    ensures { result ≡ spec.is_plain_call (instr_view instr.now) }
+    ensures { result ≡ plain.is_plain_call (instr_view instr.now) }
 {
     if let Instr::Call { call } = instr {
         if let ExprKind::Unqualified { args, .. } = &call.kind {
@@ -35,7 +35,7 @@ fn is_plain_call(instr: &Instr) -> bool
 }
 
 fn has_plain_calls(body: &[Instr]) -> bool
-    ensures { result ≡ spec.has_plain_calls (inss_from (map instr_view body.now)) }
+    ensures { result ≡ plain.has_plain_calls (inss_from (map instr_view body.now)) }
 {
     'body: for instr in body {
         if !is_plain_call(instr) {
@@ -47,7 +47,7 @@ fn has_plain_calls(body: &[Instr]) -> bool
 
 /// Whether it is a routine without locals whose body has plain calls alone.
 fn is_plain_routine(kind: &FeatureKind) -> bool
-    ensures { result ≡ spec.is_plain_routine (kind_view kind.now) }
+    ensures { result ≡ plain.is_plain_routine (kind_view kind.now) }
 {
     match kind {
         FeatureKind::Routine { locals, body } => locals.is_empty() && has_plain_calls(body),
@@ -56,7 +56,7 @@ fn is_plain_routine(kind: &FeatureKind) -> bool
 }
 
 fn is_plain_declaration(decl: &FeatureDecl) -> bool
-    ensures { result ≡ spec.is_plain_declaration (decl_view decl.now) }
+    ensures { result ≡ plain.is_plain_declaration (decl_view decl.now) }
 {
     decl.names.len() == 1
         && decl.arguments.is_empty()
@@ -67,7 +67,7 @@ fn is_plain_declaration(decl: &FeatureDecl) -> bool
 }
 
 fn are_plain_declarations(decls: &[FeatureDecl]) -> bool
-    ensures { result ≡ list_all spec.is_plain_declaration (map decl_view decls.now) }
+    ensures { result ≡ list_all plain.is_plain_declaration (map decl_view decls.now) }
 {
     'decls: for decl in decls {
         if !is_plain_declaration(decl) {
@@ -79,7 +79,7 @@ fn are_plain_declarations(decls: &[FeatureDecl]) -> bool
 
 /// Whether these features parts have plain declarations alone.
 fn are_plain_parts(parts: &[FeatureClause]) -> bool
-    ensures { result ≡ list_all spec.is_plain_declaration (flat_map (λ part. part.decls) (map features_view parts.now)) }
+    ensures { result ≡ list_all plain.is_plain_declaration (flat_map (λ part. part.decls) (map features_view parts.now)) }
 {
     'parts: for part in parts {
         if !are_plain_declarations(&part.decls) {
@@ -91,7 +91,7 @@ fn are_plain_parts(parts: &[FeatureClause]) -> bool
 
 /// Whether it is one creators part with one name.
 fn is_plain_creation(parts: &[CreatorPart]) -> bool
-    ensures { result ≡ spec.is_plain_creation (map creators_view parts.now) }
+    ensures { result ≡ plain.is_plain_creation (map creators_view parts.now) }
 {
     match parts {
         [part] => part.names.len() == 1,
@@ -100,7 +100,7 @@ fn is_plain_creation(parts: &[CreatorPart]) -> bool
 }
 
 fn has_plain_form(tree: &ClassTree) -> bool
-    ensures { result ≡ spec.has_plain_form (class_view tree.now) }
+    ensures { result ≡ plain.has_plain_form (class_view tree.now) }
 {
     !tree.is_deferred
         && tree.formals.is_empty()
@@ -111,7 +111,7 @@ fn has_plain_form(tree: &ClassTree) -> bool
 }
 
 fn are_distinct(names: &[Mention<'_>]) -> bool
-    ensures { result ≡ spec.are_distinct (map name_at names.now) }
+    ensures { result ≡ plain.are_distinct (map name_at names.now) }
 {
     'names: for (i, mention) in names.iter().enumerate() {
         if has_name(&names[i + 1..], mention.name) {
@@ -122,7 +122,7 @@ fn are_distinct(names: &[Mention<'_>]) -> bool
 }
 
 fn is_kernel_class(name: &Name) -> bool
-    ensures { result ≡ spec.among spec.kernel_classes name.now }
+    ensures { result ≡ plain.among plain.kernel_classes name.now }
 {
     let text = name.text();
     text == b"any".as_slice()
@@ -134,7 +134,7 @@ fn is_kernel_class(name: &Name) -> bool
 }
 
 fn is_kernel_feature(name: &Name) -> bool
-    ensures { result ≡ spec.among spec.kernel_features name.now }
+    ensures { result ≡ plain.among plain.kernel_features name.now }
 {
     let text = name.text();
     text == b"default_create".as_slice() || text == b"out".as_slice() || text == b"print".as_slice()
@@ -142,7 +142,7 @@ fn is_kernel_feature(name: &Name) -> bool
 
 /// Whether no name of the list is that of a kernel feature.
 fn names_no_kernel_feature(names: &[Mention<'_>]) -> bool
-    ensures { result ≡ spec.names_no_kernel_feature (map name_at names.now) }
+    ensures { result ≡ plain.names_no_kernel_feature (map name_at names.now) }
 {
     'names: for mention in names {
         if is_kernel_feature(mention.name) {
@@ -165,7 +165,7 @@ fn are_declared(names: &[Mention<'_>], declared: &[Mention<'_>]) -> bool
 }
 
 fn called_names<'t>(alloc: Global, decls: &[&'t FeatureDecl]) -> Result<Vec<Mention<'t>>, Memory>
-    ensures { IfOk result (λ v. map name_at v.items ≡ spec.called_by_all (map (λ d. decl_view d.now) decls.now)) }
+    ensures { IfOk result (λ v. map name_at v.items ≡ plain.called_by_all (map (λ d. decl_view d.now) decls.now)) }
 {
     let mut out = Vec::new(alloc);
     'decls: for decl in decls {
@@ -183,7 +183,7 @@ fn has_plain_names(
     called: &[Mention<'_>],
     clients: &[Mention<'_>],
 ) -> bool
-    ensures { result ≡ spec.has_plain_names name.now (map name_at creators.now) (map name_at declared.now) (map name_at called.now) (map name_at clients.now) }
+    ensures { result ≡ plain.has_plain_names name.now (map name_at creators.now) (map name_at declared.now) (map name_at called.now) (map name_at clients.now) }
 {
     are_distinct(declared)
         && are_declared(creators, declared)
@@ -197,7 +197,7 @@ fn has_plain_names(
 
 /// Whether the class is plain, by its form and by its names.
 pub fn is_plain(alloc: Global, tree: &ClassTree) -> Result<bool, Memory>
-    ensures { IfOk result (λ b. b ≡ spec.is_plain (class_view tree.now)) }
+    ensures { IfOk result (λ b. b ≡ plain.is_plain (class_view tree.now)) }
 {
     if !has_plain_form(tree) {
         return Ok(false);

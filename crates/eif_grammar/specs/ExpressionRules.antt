@@ -6,7 +6,7 @@ use Rattle.eif_tree.specs.declared.Op.{Op}
 use Rattle.eif_tree.specs.declared.Op.TheVariants as op
 use Rattle.eif_tree.specs.declared.Literal.TheVariants as lit
 use Rattle.eif_tree.specs.Tree.{TypeT, Ex, literal, void_value, current_value, result_value, unqualified, precursor, qualified, creation, test, paren, unary, binary, no_exs, and_ex}
-use Rattle.eif_tree.specs.Places.{place_of}
+use Rattle.eif_tree.specs.ExpressionPlaces.{place_of}
 use Rattle.eif_tree.specs.Height.{height}
 use Rattle.eif_grammar.specs.declared.terminal.Terminal.{Terminal}
 use Rattle.eif_grammar.specs.declared.terminal.Terminal.TheVariants as t

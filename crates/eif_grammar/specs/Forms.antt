@@ -1,5 +1,6 @@
 -- Which tokens begin a form, and how tightly operators bind.
-use Rattle.std.specs.Prelude.{ℕ, Bool, true, false, Option, Some, None}
+use Rattle.std.specs.Prelude.{ℕ, ◌+◌, Bool, true, false, if◌then◌else◌, Option, Some, None}
+use Rattle.std.specs.Option.{option_map_or}
 use Rattle.eif_grammar.specs.declared.terminal.Terminal.{Terminal}
 use Rattle.eif_grammar.specs.declared.terminal.Terminal.TheVariants as t
 use Rattle.eif_tree.specs.declared.Op.{Op}
@@ -34,48 +35,18 @@ unary_level = 8
 abbrev pub target_level : ℕ
 target_level = 9
 
--- the level of the left and the right operand: all operators but `^` associate to the left
-abbrev pub left_level : Op → ℕ
-left_level op.Power = 8
-left_level op.Implies = 1
-left_level op.Or = 2
-left_level op.OrElse = 2
-left_level op.Xor = 2
-left_level op.And = 3
-left_level op.AndThen = 3
-left_level op.Equal = 4
-left_level op.NotEqual = 4
-left_level op.Less = 4
-left_level op.Greater = 4
-left_level op.LessEqual = 4
-left_level op.GreaterEqual = 4
-left_level op.Plus = 5
-left_level op.Minus = 5
-left_level op.Times = 6
-left_level op.Divide = 6
-left_level op.Modulo = 6
-left_level op.Not = 0
+-- `^` alone associates to the right
+abbrev pub associates_right : Op → Bool
+associates_right op.Power = true
+associates_right _ = false
 
+-- the least level of the operators in the left operand
+abbrev pub left_level : Op → ℕ
+left_level o = if associates_right o then level o + 1 else level o
+
+-- the least level of the operators in the right operand
 abbrev pub right_level : Op → ℕ
-right_level op.Power = 7
-right_level op.Implies = 2
-right_level op.Or = 3
-right_level op.OrElse = 3
-right_level op.Xor = 3
-right_level op.And = 4
-right_level op.AndThen = 4
-right_level op.Equal = 5
-right_level op.NotEqual = 5
-right_level op.Less = 5
-right_level op.Greater = 5
-right_level op.LessEqual = 5
-right_level op.GreaterEqual = 5
-right_level op.Plus = 6
-right_level op.Minus = 6
-right_level op.Times = 7
-right_level op.Divide = 7
-right_level op.Modulo = 7
-right_level op.Not = 0
+right_level o = if associates_right o then level o else level o + 1
 
 -- the binary operator of one token, or the first token of `and then` and `or else`
 abbrev pub operator : Terminal → Option Op
@@ -106,23 +77,7 @@ prefix_operator _ = None
 
 -- how tightly a binary operator takes the expression that stands before it; 0 where the token is none
 abbrev pub binds : Terminal → ℕ
-binds t.Implies = 1
-binds t.Or = 2
-binds t.Xor = 2
-binds t.And = 3
-binds t.Equal = 4
-binds t.NotEqual = 4
-binds t.Less = 4
-binds t.Greater = 4
-binds t.LessEqual = 4
-binds t.GreaterEqual = 4
-binds t.Plus = 5
-binds t.Minus = 5
-binds t.Times = 6
-binds t.Divide = 6
-binds t.Modulo = 6
-binds t.Power = 7
-binds _ = 0
+binds x = option_map_or level (operator x) 0
 
 -- a token begins an expression
 abbrev pub begins_expression : Terminal → Bool

@@ -1,6 +1,7 @@
 -- The parts of a class text, and what it means that tokens begin one.
 use Rattle.std.specs.Prelude.{◌≡◌, ℕ, ◌≤◌, ◌⊎◌, List, [], ◌∷◌, ◌++◌}
 use Rattle.eif_base.specs.declared.Place.{Place}
+use Rattle.eif_base.specs.declared.limits.TheConstants.{MOST_HEIGHT}
 use Rattle.eif_tree.specs.Tree.{TypeT, Ex, Inss, ClassT}
 use Rattle.eif_tree.specs.Height.{type_height, height, compound_height, class_height}
 use Rattle.eif_grammar.specs.Tokens.{Token, TokenList}
@@ -11,7 +12,7 @@ use Rattle.eif_grammar.specs.SpelledClasses.{spells_class}
 
 -- the highest that a type, an expression or an instruction may be
 abbrev pub most_height : ℕ
-most_height = 400
+most_height = MOST_HEIGHT
 
 -- The tokens at the front are a part by the longest reading, no higher than the room, and rest follows.
 abbrev pub TypePart : ℕ → List Token → List Token → TypeT → Type 0

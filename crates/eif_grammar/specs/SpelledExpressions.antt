@@ -7,7 +7,7 @@ use Rattle.eif_tree.specs.declared.Op.TheVariants as op
 use Rattle.eif_tree.specs.declared.Literal.{Literal}
 use Rattle.eif_tree.specs.declared.Literal.TheVariants as lit
 use Rattle.eif_tree.specs.Tree.{TypeT, Ex, Exs, literal, void_value, current_value, result_value, unqualified, precursor, qualified, creation, test, paren, unary, binary, no_exs, and_ex}
-use Rattle.eif_tree.specs.Places.{place_of}
+use Rattle.eif_tree.specs.ExpressionPlaces.{place_of}
 use Rattle.eif_grammar.specs.declared.terminal.Terminal.TheVariants as t
 use Rattle.eif_grammar.specs.Literals.{integer_value, character_value, string_value}
 use Rattle.eif_grammar.specs.Forms.{level, left_level, right_level, operator, prefix_operator, binds, unary_level, target_level}

@@ -5,7 +5,7 @@ use Rattle.eif_tree.specs.declared.NameAt.{NameAt}
 use Rattle.eif_tree.specs.declared.Op.{Op}
 use Rattle.eif_tree.specs.Tree.{TypeT, Ex, Exs, literal, void_value, current_value, result_value, unqualified, precursor, qualified, creation, test, paren, unary, binary, no_exs, and_ex}
 use Rattle.eif_tree.specs.Height.{height, heights}
-use Rattle.eif_tree.specs.Places.{place_of}
+use Rattle.eif_tree.specs.ExpressionPlaces.{place_of}
 use Rattle.eif_grammar.specs.declared.terminal.Terminal.TheVariants as t
 use Rattle.eif_grammar.specs.Tokens.{Token}
 use Rattle.eif_grammar.specs.Forms.{left_level, right_level, prefix_operator, target_level}

@@ -9,7 +9,7 @@ use Rattle.eif_tree.specs.declared.Literal.{Literal}
 use Rattle.eif_tree.specs.declared.Literal.TheVariants as lit
 use Rattle.eif_tree.specs.Tree.{TypeT, Ex, literal, test, binary}
 use Rattle.eif_tree.specs.Height.{height}
-use Rattle.eif_tree.specs.Places.{place_of}
+use Rattle.eif_tree.specs.ExpressionPlaces.{place_of}
 use Rattle.eif_grammar.specs.declared.terminal.Terminal.TheVariants as t
 use Rattle.eif_grammar.specs.Tokens.{Token}
 use Rattle.eif_grammar.specs.Forms.{level, right_level, operator, binds}

@@ -6,7 +6,7 @@ use Rattle.eif_tree.specs.declared.Op.TheVariants as op
 use Rattle.eif_tree.specs.declared.Literal.TheVariants as lit
 use Rattle.eif_tree.specs.Tree.{Ex, literal, binary}
 use Rattle.eif_tree.specs.Height.{height}
-use Rattle.eif_tree.specs.Places.{place_of}
+use Rattle.eif_tree.specs.ExpressionPlaces.{place_of}
 use Rattle.eif_grammar.specs.declared.terminal.Terminal.TheVariants as t
 use Rattle.eif_grammar.specs.Tokens.{Token}
 use Rattle.eif_grammar.specs.Literals.{integer_value}

@@ -2,7 +2,7 @@
 use Rattle.std.proofs.Common.{◌≡◌, ◌≢◌, true, false, Bool, ℕ, zero, suc, List, [], ◌∷◌, refl, ap, sym, ◌∙◌, subst, arith}
 use Rattle.std.proofs.lemmas.Bool.Decides.{nat_tests}
 use Rattle.eif_grammar.specs.declared.terminal.Terminal.{Terminal}
-use Rattle.eif_grammar.specs.declared.terminal.Terminal.TheVariants as v
+use Rattle.eif_grammar.specs.declared.terminal.Terminal.TheVariants as t
 use Rattle.eif_grammar.specs.Tokens.{Token}
 use Rattle.eif_grammar.specs.Is.{index, is}
 use Rattle.eif_grammar.specs.Spelling.{head, one}
@@ -13,115 +13,115 @@ use Rattle.eif_grammar_laws.proofs.Readers.{by_rule, called, taken, looked, guar
 
 -- the terminal with that index
 block_9 : ℕ → Terminal
-block_9 zero = v.Exclamation
-block_9 (suc zero) = v.Arrow
-block_9 (suc (suc zero)) = v.LeftOutWord
-block_9 (suc (suc (suc zero))) = v.LeftOutSymbol
-block_9 (suc (suc (suc (suc zero)))) = v.EndOfText
-block_9 _ = v.EndOfText
+block_9 zero = t.Exclamation
+block_9 (suc zero) = t.Arrow
+block_9 (suc (suc zero)) = t.LeftOutWord
+block_9 (suc (suc (suc zero))) = t.LeftOutSymbol
+block_9 (suc (suc (suc (suc zero)))) = t.EndOfText
+block_9 _ = t.EndOfText
 
 block_8 : ℕ → Terminal
-block_8 zero = v.GreaterEqual
-block_8 (suc zero) = v.Plus
-block_8 (suc (suc zero)) = v.Minus
-block_8 (suc (suc (suc zero))) = v.Times
-block_8 (suc (suc (suc (suc zero)))) = v.Divide
-block_8 (suc (suc (suc (suc (suc zero))))) = v.Modulo
-block_8 (suc (suc (suc (suc (suc (suc zero)))))) = v.Power
-block_8 (suc (suc (suc (suc (suc (suc (suc zero))))))) = v.Question
+block_8 zero = t.GreaterEqual
+block_8 (suc zero) = t.Plus
+block_8 (suc (suc zero)) = t.Minus
+block_8 (suc (suc (suc zero))) = t.Times
+block_8 (suc (suc (suc (suc zero)))) = t.Divide
+block_8 (suc (suc (suc (suc (suc zero))))) = t.Modulo
+block_8 (suc (suc (suc (suc (suc (suc zero)))))) = t.Power
+block_8 (suc (suc (suc (suc (suc (suc (suc zero))))))) = t.Question
 block_8 (suc (suc (suc (suc (suc (suc (suc (suc n)))))))) = block_9 n
 
 block_7 : ℕ → Terminal
-block_7 zero = v.Colon
-block_7 (suc zero) = v.Dot
-block_7 (suc (suc zero)) = v.Assign
-block_7 (suc (suc (suc zero))) = v.Equal
-block_7 (suc (suc (suc (suc zero)))) = v.NotEqual
-block_7 (suc (suc (suc (suc (suc zero))))) = v.Less
-block_7 (suc (suc (suc (suc (suc (suc zero)))))) = v.Greater
-block_7 (suc (suc (suc (suc (suc (suc (suc zero))))))) = v.LessEqual
+block_7 zero = t.Colon
+block_7 (suc zero) = t.Dot
+block_7 (suc (suc zero)) = t.Assign
+block_7 (suc (suc (suc zero))) = t.Equal
+block_7 (suc (suc (suc (suc zero)))) = t.NotEqual
+block_7 (suc (suc (suc (suc (suc zero))))) = t.Less
+block_7 (suc (suc (suc (suc (suc (suc zero)))))) = t.Greater
+block_7 (suc (suc (suc (suc (suc (suc (suc zero))))))) = t.LessEqual
 block_7 (suc (suc (suc (suc (suc (suc (suc (suc n)))))))) = block_8 n
 
 block_6 : ℕ → Terminal
-block_6 zero = v.OpenParenthesis
-block_6 (suc zero) = v.CloseParenthesis
-block_6 (suc (suc zero)) = v.OpenBracket
-block_6 (suc (suc (suc zero))) = v.CloseBracket
-block_6 (suc (suc (suc (suc zero)))) = v.OpenBrace
-block_6 (suc (suc (suc (suc (suc zero))))) = v.CloseBrace
-block_6 (suc (suc (suc (suc (suc (suc zero)))))) = v.Comma
-block_6 (suc (suc (suc (suc (suc (suc (suc zero))))))) = v.Semicolon
+block_6 zero = t.OpenParenthesis
+block_6 (suc zero) = t.CloseParenthesis
+block_6 (suc (suc zero)) = t.OpenBracket
+block_6 (suc (suc (suc zero))) = t.CloseBracket
+block_6 (suc (suc (suc (suc zero)))) = t.OpenBrace
+block_6 (suc (suc (suc (suc (suc zero))))) = t.CloseBrace
+block_6 (suc (suc (suc (suc (suc (suc zero)))))) = t.Comma
+block_6 (suc (suc (suc (suc (suc (suc (suc zero))))))) = t.Semicolon
 block_6 (suc (suc (suc (suc (suc (suc (suc (suc n)))))))) = block_7 n
 
 block_5 : ℕ → Terminal
-block_5 zero = v.Select
-block_5 (suc zero) = v.Then
-block_5 (suc (suc zero)) = v.True
-block_5 (suc (suc (suc zero))) = v.Undefine
-block_5 (suc (suc (suc (suc zero)))) = v.Until
-block_5 (suc (suc (suc (suc (suc zero))))) = v.Variant
-block_5 (suc (suc (suc (suc (suc (suc zero)))))) = v.Void
-block_5 (suc (suc (suc (suc (suc (suc (suc zero))))))) = v.Xor
+block_5 zero = t.Select
+block_5 (suc zero) = t.Then
+block_5 (suc (suc zero)) = t.True
+block_5 (suc (suc (suc zero))) = t.Undefine
+block_5 (suc (suc (suc (suc zero)))) = t.Until
+block_5 (suc (suc (suc (suc (suc zero))))) = t.Variant
+block_5 (suc (suc (suc (suc (suc (suc zero)))))) = t.Void
+block_5 (suc (suc (suc (suc (suc (suc (suc zero))))))) = t.Xor
 block_5 (suc (suc (suc (suc (suc (suc (suc (suc n)))))))) = block_6 n
 
 block_4 : ℕ → Terminal
-block_4 zero = v.Note
-block_4 (suc zero) = v.Obsolete
-block_4 (suc (suc zero)) = v.Or
-block_4 (suc (suc (suc zero))) = v.Precursor
-block_4 (suc (suc (suc (suc zero)))) = v.Redefine
-block_4 (suc (suc (suc (suc (suc zero))))) = v.Rename
-block_4 (suc (suc (suc (suc (suc (suc zero)))))) = v.Require
-block_4 (suc (suc (suc (suc (suc (suc (suc zero))))))) = v.Result
+block_4 zero = t.Note
+block_4 (suc zero) = t.Obsolete
+block_4 (suc (suc zero)) = t.Or
+block_4 (suc (suc (suc zero))) = t.Precursor
+block_4 (suc (suc (suc (suc zero)))) = t.Redefine
+block_4 (suc (suc (suc (suc (suc zero))))) = t.Rename
+block_4 (suc (suc (suc (suc (suc (suc zero)))))) = t.Require
+block_4 (suc (suc (suc (suc (suc (suc (suc zero))))))) = t.Result
 block_4 (suc (suc (suc (suc (suc (suc (suc (suc n)))))))) = block_5 n
 
 block_3 : ℕ → Terminal
-block_3 zero = v.From
-block_3 (suc zero) = v.If
-block_3 (suc (suc zero)) = v.Implies
-block_3 (suc (suc (suc zero))) = v.Inherit
-block_3 (suc (suc (suc (suc zero)))) = v.Invariant
-block_3 (suc (suc (suc (suc (suc zero))))) = v.Local
-block_3 (suc (suc (suc (suc (suc (suc zero)))))) = v.Loop
-block_3 (suc (suc (suc (suc (suc (suc (suc zero))))))) = v.Not
+block_3 zero = t.From
+block_3 (suc zero) = t.If
+block_3 (suc (suc zero)) = t.Implies
+block_3 (suc (suc (suc zero))) = t.Inherit
+block_3 (suc (suc (suc (suc zero)))) = t.Invariant
+block_3 (suc (suc (suc (suc (suc zero))))) = t.Local
+block_3 (suc (suc (suc (suc (suc (suc zero)))))) = t.Loop
+block_3 (suc (suc (suc (suc (suc (suc (suc zero))))))) = t.Not
 block_3 (suc (suc (suc (suc (suc (suc (suc (suc n)))))))) = block_4 n
 
 block_2 : ℕ → Terminal
-block_2 zero = v.Do
-block_2 (suc zero) = v.Else
-block_2 (suc (suc zero)) = v.Elseif
-block_2 (suc (suc (suc zero))) = v.End
-block_2 (suc (suc (suc (suc zero)))) = v.Ensure
-block_2 (suc (suc (suc (suc (suc zero))))) = v.Export
-block_2 (suc (suc (suc (suc (suc (suc zero)))))) = v.False
-block_2 (suc (suc (suc (suc (suc (suc (suc zero))))))) = v.Feature
+block_2 zero = t.Do
+block_2 (suc zero) = t.Else
+block_2 (suc (suc zero)) = t.Elseif
+block_2 (suc (suc (suc zero))) = t.End
+block_2 (suc (suc (suc (suc zero)))) = t.Ensure
+block_2 (suc (suc (suc (suc (suc zero))))) = t.Export
+block_2 (suc (suc (suc (suc (suc (suc zero)))))) = t.False
+block_2 (suc (suc (suc (suc (suc (suc (suc zero))))))) = t.Feature
 block_2 (suc (suc (suc (suc (suc (suc (suc (suc n)))))))) = block_3 n
 
 block_1 : ℕ → Terminal
-block_1 zero = v.As
-block_1 (suc zero) = v.Attached
-block_1 (suc (suc zero)) = v.Check
-block_1 (suc (suc (suc zero))) = v.Class
-block_1 (suc (suc (suc (suc zero)))) = v.Create
-block_1 (suc (suc (suc (suc (suc zero))))) = v.Current
-block_1 (suc (suc (suc (suc (suc (suc zero)))))) = v.Deferred
-block_1 (suc (suc (suc (suc (suc (suc (suc zero))))))) = v.Detachable
+block_1 zero = t.As
+block_1 (suc zero) = t.Attached
+block_1 (suc (suc zero)) = t.Check
+block_1 (suc (suc (suc zero))) = t.Class
+block_1 (suc (suc (suc (suc zero)))) = t.Create
+block_1 (suc (suc (suc (suc (suc zero))))) = t.Current
+block_1 (suc (suc (suc (suc (suc (suc zero)))))) = t.Deferred
+block_1 (suc (suc (suc (suc (suc (suc (suc zero))))))) = t.Detachable
 block_1 (suc (suc (suc (suc (suc (suc (suc (suc n)))))))) = block_2 n
 
 block_0 : ℕ → Terminal
-block_0 zero = v.Identifier
-block_0 (suc zero) = v.Integer
-block_0 (suc (suc zero)) = v.Real
-block_0 (suc (suc (suc zero))) = v.Character
-block_0 (suc (suc (suc (suc zero)))) = v.StringText
-block_0 (suc (suc (suc (suc (suc zero))))) = v.Verbatim
-block_0 (suc (suc (suc (suc (suc (suc zero)))))) = v.All
-block_0 (suc (suc (suc (suc (suc (suc (suc zero))))))) = v.And
+block_0 zero = t.Identifier
+block_0 (suc zero) = t.Integer
+block_0 (suc (suc zero)) = t.Real
+block_0 (suc (suc (suc zero))) = t.Character
+block_0 (suc (suc (suc (suc zero)))) = t.StringText
+block_0 (suc (suc (suc (suc (suc zero))))) = t.Verbatim
+block_0 (suc (suc (suc (suc (suc (suc zero)))))) = t.All
+block_0 (suc (suc (suc (suc (suc (suc (suc zero))))))) = t.And
 block_0 (suc (suc (suc (suc (suc (suc (suc (suc n)))))))) = block_1 n
 
 at_index-index : (x : Terminal) → block_0 (index x) ≡ x
 unfolding block_0 block_1 block_2 block_3 block_4 block_5 block_6 block_7 block_8 block_9
-at_index-index v.Identifier = refl
+at_index-index t.Identifier = refl
 at_index-index _ = refl
 
 -- the test says that two terminals are one

@@ -7,7 +7,7 @@ use Rattle.std.proofs.lemmas.Bool.{leb-true}
 use Rattle.eif_grammar.specs.declared.piece.Piece.{Piece}
 use Rattle.eif_grammar.specs.declared.terminal.Terminal.{Terminal}
 use Rattle.eif_grammar.specs.declared.terminal.Terminal.TheVariants as t
-use Rattle.eif_grammar.specs.Lexemes as spec
+use Rattle.eif_grammar.specs.Lexemes as lexeme
 use Rattle.eif_grammar.specs.Lexemes.{Escape, gap, token, begins, in_word, number_of, largest_integer, digits_length, listed, longest_row, is_digit, run_length, exponent_length, opens_verbatim, quote_length, character_item, word_terminal}
 use Rattle.eif_grammar.specs.Words.{words, symbols}
 use Rattle.eif_lex.proofs.Longer.{longer-keeps, and_parts}
@@ -63,10 +63,10 @@ row_no_integer ts (row ∷ rows) text e =
     (other_if ts (starts_with nat_eq text row.0) (token row.1 (length row.0)) (not_true (is_integer row.1) parts.0))
     (row_no_integer ts rows text parts.1)
 
-word_small : (ts : List ℕ) → IfSome (spec.word ts) (IsSmallIn ts)
+word_small : (ts : List ℕ) → IfSome (lexeme.word ts) (IsSmallIn ts)
 word_small ts =
     let n = run_length in_word ts in
-    other_if ts (begins spec.is_letter ts) (token (word_terminal (take n ts)) n) (listed_no_integer words (str_to_ascii_lowercase (take n ts)) refl)
+    other_if ts (begins lexeme.is_letter ts) (token (word_terminal (take n ts)) n) (listed_no_integer words (str_to_ascii_lowercase (take n ts)) refl)
 
 middle : (a b d : Bool) → (a && b && d) ≡ true → b ≡ true
 middle a b d e = (and_parts a b (and_parts (a && b) d e).0).1
@@ -75,7 +75,7 @@ integer_by : (ts : List ℕ) (n : ℕ) (b : Bool) → (b ≡ true → number_of 
 integer_by ts n true h = λ same. h refl
 integer_by ts n false h = tt
 
-integer_small : (ts : List ℕ) → IfSome (spec.integer ts) (IsSmallIn ts)
+integer_small : (ts : List ℕ) → IfSome (lexeme.integer ts) (IsSmallIn ts)
 integer_small ts =
     let n = digits_length ts in
     let a = nat_lt 0 n in let b = nat_le (number_of (take n ts)) largest_integer in let d = not (begins in_word (drop n ts)) in
@@ -90,21 +90,21 @@ string_small : (ts : List ℕ) (o : Option ℕ) → IfSome (option_map (λ n. to
 string_small ts None = tt
 string_small ts (Some n) = other ts (token t.StringText (n + 1)) refl
 
-pub piece_small : (ts : List ℕ) → IfSome (spec.piece ts) (IsSmallIn ts)
+pub piece_small : (ts : List ℕ) → IfSome (lexeme.piece ts) (IsSmallIn ts)
 piece_small ts =
     let P = IsSmallIn ts in
-    let blank = other_if ts (begins spec.is_blank ts) (gap 1) refl in
-    let comment = other_if ts (begins (λ b. b == 45) ts && begins (λ b. b == 45) (drop 1 ts)) (gap (run_length spec.in_comment (drop 2 ts) + 2)) refl in
+    let blank = other_if ts (begins lexeme.is_blank ts) (gap 1) refl in
+    let comment = other_if ts (begins (λ b. b == 45) ts && begins (λ b. b == 45) (drop 1 ts)) (gap (run_length lexeme.in_comment (drop 2 ts) + 2)) refl in
     let n = run_length is_digit ts in let m = run_length is_digit (drop (n + 1) ts) in
     let real = other_if ts (nat_lt 0 n && begins (λ b. b == 46) (drop n ts) && nat_lt 0 m) (token t.Real (n + 1 + m + exponent_length (drop (n + 1 + m) ts))) refl in
     let character = in_if ts (begins (λ b. b == 39) ts) (option_and_then (λ (item : Escape). if begins (λ b. b == 39) (drop (item.len + 1) ts) then Some (token t.Character (item.len + 2)) else None) (character_item (drop 1 ts))) (character_small ts (character_item (drop 1 ts))) in
     let string = in_if ts (begins (λ b. b == 34) ts) (option_map (λ n. token t.StringText (n + 1)) (quote_length 0 (drop 1 ts))) (string_small ts (quote_length 0 (drop 1 ts))) in
     let verbatim = other_if ts (begins (λ b. b == 34) ts && opens_verbatim (drop 1 ts)) (token t.Verbatim (length ts)) refl in
-    longer-keeps P (spec.blank ts) _ blank
-    (longer-keeps P (spec.comment ts) _ comment
-    (longer-keeps P (spec.word ts) _ (word_small ts)
-    (longer-keeps P (spec.integer ts) _ (integer_small ts)
-    (longer-keeps P (spec.real ts) _ real
-    (longer-keeps P (spec.character ts) _ character
-    (longer-keeps P (spec.string ts) _ string
-    (longer-keeps P (spec.verbatim ts) (spec.symbol ts) verbatim (row_no_integer ts symbols ts refl))))))))
+    longer-keeps P (lexeme.blank ts) _ blank
+    (longer-keeps P (lexeme.comment ts) _ comment
+    (longer-keeps P (lexeme.word ts) _ (word_small ts)
+    (longer-keeps P (lexeme.integer ts) _ (integer_small ts)
+    (longer-keeps P (lexeme.real ts) _ real
+    (longer-keeps P (lexeme.character ts) _ character
+    (longer-keeps P (lexeme.string ts) _ string
+    (longer-keeps P (lexeme.verbatim ts) (lexeme.symbol ts) verbatim (row_no_integer ts symbols ts refl))))))))

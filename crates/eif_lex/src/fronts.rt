@@ -1,29 +1,29 @@
 ghost use Rattle.std.specs.Prelude.{◌≡◌, ◌≤◌, ◌==◌, length, drop, take};
-ghost use Rattle.eif_grammar.specs.Lexemes as spec;
+ghost use Rattle.eif_grammar.specs.Lexemes as lexeme;
 
 use eif_grammar::{Piece, Terminal};
 
 pub fn is_letter(b: u8) -> bool
-    ensures { result ≡ spec.is_letter b }
+    ensures { result ≡ lexeme.is_letter b }
 {
     b.is_ascii_alphabetic()
 }
 
 pub fn is_digit(b: u8) -> bool
-    ensures { result ≡ spec.is_digit b }
+    ensures { result ≡ lexeme.is_digit b }
 {
     b.is_ascii_digit()
 }
 
 pub fn in_word(b: u8) -> bool
-    ensures { result ≡ spec.in_word b }
+    ensures { result ≡ lexeme.in_word b }
 {
     is_letter(b) || is_digit(b) || b == b'_'
 }
 
 /// Whether the text begins with that byte.
 pub fn begins_with(text: &[u8], byte: u8) -> bool
-    ensures { result ≡ spec.begins (λ b. b == byte) text.now }
+    ensures { result ≡ lexeme.begins (λ b. b == byte) text.now }
 {
     match text {
         [b, ..] => *b == byte,
@@ -32,7 +32,7 @@ pub fn begins_with(text: &[u8], byte: u8) -> bool
 }
 
 pub fn begins_with_digit(text: &[u8]) -> bool
-    ensures { result ≡ spec.begins spec.is_digit text.now }
+    ensures { result ≡ lexeme.begins lexeme.is_digit text.now }
 {
     match text {
         [b, ..] => is_digit(*b),
@@ -41,7 +41,7 @@ pub fn begins_with_digit(text: &[u8]) -> bool
 }
 
 pub fn begins_with_letter(text: &[u8]) -> bool
-    ensures { result ≡ spec.begins spec.is_letter text.now }
+    ensures { result ≡ lexeme.begins lexeme.is_letter text.now }
 {
     match text {
         [b, ..] => is_letter(*b),
@@ -50,7 +50,7 @@ pub fn begins_with_letter(text: &[u8]) -> bool
 }
 
 pub fn begins_in_word(text: &[u8]) -> bool
-    ensures { result ≡ spec.begins spec.in_word text.now }
+    ensures { result ≡ lexeme.begins lexeme.in_word text.now }
 {
     match text {
         [b, ..] => in_word(*b),
@@ -73,7 +73,7 @@ pub fn behind(text: &[u8], n: usize) -> &[u8]
 }
 
 pub fn digits_run(text: &[u8]) -> usize
-    ensures value { result ≡ spec.run_length spec.is_digit text.now }
+    ensures value { result ≡ lexeme.run_length lexeme.is_digit text.now }
     ensures within { result ≤ length text.now }
 {
     let mut n = 0;
@@ -84,7 +84,7 @@ pub fn digits_run(text: &[u8]) -> usize
 }
 
 pub fn word_run(text: &[u8]) -> usize
-    ensures value { result ≡ spec.run_length spec.in_word text.now }
+    ensures value { result ≡ lexeme.run_length lexeme.in_word text.now }
     ensures within { result ≤ length text.now }
 {
     let mut n = 0;
@@ -95,7 +95,7 @@ pub fn word_run(text: &[u8]) -> usize
 }
 
 pub fn gap(len: usize) -> Piece
-    ensures { result ≡ spec.gap len }
+    ensures { result ≡ lexeme.gap len }
 {
     Piece {
         terminal: None,
@@ -104,7 +104,7 @@ pub fn gap(len: usize) -> Piece
 }
 
 pub fn token(terminal: Terminal, len: usize) -> Piece
-    ensures { result ≡ spec.token terminal len }
+    ensures { result ≡ lexeme.token terminal len }
 {
     Piece {
         terminal: Some(terminal),

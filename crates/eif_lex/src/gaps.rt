@@ -1,12 +1,12 @@
 ghost use Rattle.std.specs.Prelude.{◌≡◌, ◌≤◌, ◌<◌, length, IfSome};
-ghost use Rattle.eif_grammar.specs.Lexemes as spec;
+ghost use Rattle.eif_grammar.specs.Lexemes as lexeme;
 
 use crate::fronts::{begins_with, behind, gap};
 use eif_grammar::Piece;
 
 /// One blank.
 pub fn blank(text: &[u8]) -> Option<Piece>
-    ensures value { result ≡ spec.blank text.now }
+    ensures value { result ≡ lexeme.blank text.now }
     ensures some { IfSome result (λ p. 0 < p.len) }
     ensures within { IfSome result (λ p. p.len ≤ length text.now) }
 {
@@ -17,7 +17,7 @@ pub fn blank(text: &[u8]) -> Option<Piece>
 }
 
 fn comment_run(text: &[u8]) -> usize
-    ensures value { result ≡ spec.run_length spec.in_comment text.now }
+    ensures value { result ≡ lexeme.run_length lexeme.in_comment text.now }
     ensures within { result ≤ length text.now }
 {
     let mut n = 0;
@@ -29,7 +29,7 @@ fn comment_run(text: &[u8]) -> usize
 
 /// A comment, without the line feed behind it.
 pub fn comment(text: &[u8]) -> Option<Piece>
-    ensures value { result ≡ spec.comment text.now }
+    ensures value { result ≡ lexeme.comment text.now }
     ensures some { IfSome result (λ p. 0 < p.len) }
     ensures within { IfSome result (λ p. p.len ≤ length text.now) }
 {

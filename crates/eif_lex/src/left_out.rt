@@ -1,6 +1,6 @@
 ghost use Rattle.std.specs.Prelude.{◌≡◌, ◌<◌, ◌||◌, ◌&&◌, length, slice_get, None, Some, IfOk, IfSome};
 ghost use Rattle.std.specs.Option.{MatchOption, option_map};
-ghost use Rattle.eif_grammar.specs.LeftOut as spec;
+ghost use Rattle.eif_grammar.specs.LeftOut as left;
 
 use crate::tokens::Tokens;
 use eif_base::{Memory, Name};
@@ -8,7 +8,7 @@ use eif_grammar::Terminal;
 use std::alloc::Global;
 
 fn is_left_out(terminal: Terminal) -> bool
-    ensures { result ≡ spec.is_left_out terminal }
+    ensures { result ≡ left.is_left_out terminal }
 {
     matches!(
         terminal,
@@ -18,27 +18,27 @@ fn is_left_out(terminal: Terminal) -> bool
 
 /// Whether no `{` may follow directly.
 fn bars_brace(terminal: Terminal) -> bool
-    ensures { result ≡ spec.bars_brace terminal }
+    ensures { result ≡ left.bars_brace terminal }
 {
     matches!(terminal, Terminal::Inherit | Terminal::Arrow)
 }
 
 fn is_open_brace(terminal: Terminal) -> bool
-    ensures { result ≡ spec.is_open_brace terminal }
+    ensures { result ≡ left.is_open_brace terminal }
 {
     matches!(terminal, Terminal::OpenBrace)
 }
 
 /// Whether a token is left out where another stands before it.
 fn is_left_out_after(before: Terminal, terminal: Terminal) -> bool
-    ensures { result ≡ (spec.is_left_out terminal || (spec.bars_brace before && spec.is_open_brace terminal)) }
+    ensures { result ≡ (left.is_left_out terminal || (left.bars_brace before && left.is_open_brace terminal)) }
 {
     is_left_out(terminal) || (bars_brace(before) && is_open_brace(terminal))
 }
 
 /// The number of the first token that is left out.
 pub fn first_left_out(tokens: &Tokens<'_>) -> Option<u32>
-    ensures first { MatchOption result (spec.left_out tokens.now.tokens ≡ None) (λ i. spec.left_out tokens.now.tokens ≡ slice_get tokens.now.tokens i) }
+    ensures first { MatchOption result (left.left_out tokens.now.tokens ≡ None) (λ i. left.left_out tokens.now.tokens ≡ slice_get tokens.now.tokens i) }
     ensures within { IfSome result (λ i. i < length tokens.now.tokens) }
 {
     let mut before = Terminal::EndOfText;
@@ -57,7 +57,7 @@ pub fn first_left_out(tokens: &Tokens<'_>) -> Option<u32>
 /// How the report names token i, which is left out.
 pub fn left_out_text(alloc: Global, tokens: &Tokens<'_>, i: u32) -> Result<Name, Memory>
     requires { i < length tokens.now.tokens }
-    ensures { IfOk result (λ n. option_map (λ t. spec.left_out_text t.terminal t.text) (slice_get tokens.now.tokens i) ≡ Some n) }
+    ensures { IfOk result (λ n. option_map (λ t. left.left_out_text t.terminal t.text) (slice_get tokens.now.tokens i) ≡ Some n) }
 {
     match tokens.terminal(i) {
         Terminal::Real => Name::from_bytes(alloc, b"real"),

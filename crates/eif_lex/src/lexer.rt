@@ -9,6 +9,7 @@ use crate::piece::first_piece;
 use crate::spot::Spot;
 use crate::tokens::Tokens;
 use eif_base::Place;
+use eif_base::limits::MOST_BYTES;
 use eif_grammar::Piece;
 use std::alloc::{AllocError, AllocFailed, Global};
 
@@ -96,7 +97,7 @@ fn push_piece(spots: &mut Vec<Spot>, piece: Piece, place: Place) -> Result<(), A
 }
 
 fn cut_text(alloc: Global, file: u32, text: &[u8]) -> Result<Cut, LexError>
-    requires { length text.now ≤ 1048576 }
+    requires { length text.now ≤ MOST_BYTES }
     ensures exact { Lexes file text.now (tokens_in text.now result) }
     ensures spots { IfOk result (λ cut. AreSpots text.now cut.spots.items) }
 {
@@ -128,7 +129,7 @@ fn cut_text(alloc: Global, file: u32, text: &[u8]) -> Result<Cut, LexError>
 
 /// The tokens of the text, which they borrow.
 pub fn lex<'t>(alloc: Global, file: u32, text: &'t [u8]) -> Result<Tokens<'t>, LexError>
-    requires { length text.now ≤ 1048576 }
+    requires { length text.now ≤ MOST_BYTES }
     ensures exact { Lexes file text.now result }
     ensures slices { IfOk result (λ list. AreSlices text.now list.tokens) }
     ensures in_order { IfOk result (λ list. AreInOrder list.tokens) }

@@ -16,6 +16,7 @@ mod tests;
 mod tokens;
 mod words;
 
+pub use eif_grammar::TokenKind;
 pub use left_out::{first_left_out, left_out_text};
 pub use lexer::{LexError, lex};
 pub use literals::{character_value, string_value};

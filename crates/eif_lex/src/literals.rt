@@ -1,6 +1,6 @@
 ghost use Rattle.std.specs.Prelude.{◌≡◌, ◌<◌, ◌≤◌, length, IfSome, IfOk};
 ghost use Rattle.std.specs.Option.{option_map};
-ghost use Rattle.eif_grammar.specs.Literals as spec;
+ghost use Rattle.eif_grammar.specs.Literals as literal;
 ghost use Rattle.eif_lex.specs.Items.{escape_of, value_item};
 
 use crate::fronts::behind;
@@ -10,7 +10,7 @@ use std::alloc::Global;
 
 /// The byte of a character literal.
 pub fn character_value(text: &[u8]) -> u8
-    ensures { result ≡ spec.character_value text.now }
+    ensures { result ≡ literal.character_value text.now }
 {
     match character_item(behind(text, 1)) {
         Some(item) => item.byte,
@@ -32,7 +32,7 @@ fn value_item(text: &[u8]) -> Option<Item>
 
 /// The bytes of a string literal.
 pub fn string_value(alloc: Global, text: &[u8]) -> Result<Bytes, Memory>
-    ensures { IfOk result (λ b. b ≡ spec.string_value text.now) }
+    ensures { IfOk result (λ b. b ≡ literal.string_value text.now) }
 {
     let mut bytes = Vec::new(alloc);
     let mut rest = behind(text, 1);

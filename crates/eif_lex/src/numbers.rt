@@ -1,5 +1,5 @@
 ghost use Rattle.std.specs.Prelude.{◌≡◌, ◌≤◌, ◌<◌, ◌==◌, ◌||◌, if◌then◌else◌, length, min, drop, IfSome};
-ghost use Rattle.eif_grammar.specs.Lexemes as spec;
+ghost use Rattle.eif_grammar.specs.Lexemes as lexeme;
 
 use crate::fronts::{
     begins_in_word, begins_with, begins_with_digit, behind, digits_run, front, is_digit, token,
@@ -11,7 +11,7 @@ pub const TOO_LARGE: u64 = 9_223_372_036_854_775_808;
 
 /// The number of the digits, or `TOO_LARGE` where it is that large.
 pub fn number_of(digits: &[u8]) -> u64
-    ensures value { result ≡ min (spec.number_of digits.now) TOO_LARGE }
+    ensures value { result ≡ min (lexeme.number_of digits.now) TOO_LARGE }
 {
     let mut number: u64 = 0;
     'digits: for b in digits {
@@ -27,7 +27,7 @@ pub fn number_of(digits: &[u8]) -> u64
 
 /// The digits, with single underscores between digits.
 fn digits_length(text: &[u8]) -> usize
-    ensures value { result ≡ spec.digits_length text.now }
+    ensures value { result ≡ lexeme.digits_length text.now }
     ensures within { result ≤ length text.now }
 {
     if begins_with_digit(text) {
@@ -39,7 +39,7 @@ fn digits_length(text: &[u8]) -> usize
 
 /// The same behind a digit.
 fn more_digits_length(text: &[u8]) -> usize
-    ensures value { result ≡ spec.more_digits_length text.now }
+    ensures value { result ≡ lexeme.more_digits_length text.now }
     ensures within { result ≤ length text.now }
 {
     let mut n = 0;
@@ -53,7 +53,7 @@ fn more_digits_length(text: &[u8]) -> usize
 
 /// An integer literal.
 pub fn integer(text: &[u8]) -> Option<Piece>
-    ensures value { result ≡ spec.integer text.now }
+    ensures value { result ≡ lexeme.integer text.now }
     ensures some { IfSome result (λ p. 0 < p.len) }
     ensures within { IfSome result (λ p. p.len ≤ length text.now) }
 {
@@ -67,7 +67,7 @@ pub fn integer(text: &[u8]) -> Option<Piece>
 
 /// Where the digits of an exponent begin, behind its letter and perhaps a sign.
 fn exponent_digits(text: &[u8]) -> usize
-    ensures { result ≡ (if spec.begins (λ b. b == 43 || b == 45) (drop 1 text.now) then 2 else 1) }
+    ensures { result ≡ (if lexeme.begins (λ b. b == 43 || b == 45) (drop 1 text.now) then 2 else 1) }
 {
     match text {
         [_, b'+' | b'-', ..] => 2,
@@ -76,7 +76,7 @@ fn exponent_digits(text: &[u8]) -> usize
 }
 
 fn begins_exponent(text: &[u8]) -> bool
-    ensures { result ≡ spec.begins (λ b. b == 101 || b == 69) text.now }
+    ensures { result ≡ lexeme.begins (λ b. b == 101 || b == 69) text.now }
 {
     match text {
         [b'e' | b'E', ..] => true,
@@ -86,7 +86,7 @@ fn begins_exponent(text: &[u8]) -> bool
 
 /// How many bytes of an exponent there are.
 fn exponent_length(text: &[u8]) -> usize
-    ensures value { result ≡ spec.exponent_length text.now }
+    ensures value { result ≡ lexeme.exponent_length text.now }
     ensures within { result ≤ length text.now }
 {
     let signed = exponent_digits(text);
@@ -100,7 +100,7 @@ fn exponent_length(text: &[u8]) -> usize
 
 /// A real literal.
 pub fn real(text: &[u8]) -> Option<Piece>
-    ensures value { result ≡ spec.real text.now }
+    ensures value { result ≡ lexeme.real text.now }
     ensures some { IfSome result (λ p. 0 < p.len) }
     ensures within { IfSome result (λ p. p.len ≤ length text.now) }
 {

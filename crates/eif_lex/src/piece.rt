@@ -1,5 +1,5 @@
 ghost use Rattle.std.specs.Prelude.{◌≡◌, ◌≤◌, ◌<◌, length, IfSome};
-ghost use Rattle.eif_grammar.specs.Lexemes as spec;
+ghost use Rattle.eif_grammar.specs.Lexemes as lexeme;
 
 use crate::gaps::{blank, comment};
 use crate::numbers::{integer, real};
@@ -10,7 +10,7 @@ use eif_grammar::Piece;
 
 /// The longer of two pieces, or the first where they are as long.
 pub fn longer(p: Option<Piece>, q: Option<Piece>) -> Option<Piece>
-    ensures { result ≡ spec.longer p q }
+    ensures { result ≡ lexeme.longer p q }
 {
     match (p, q) {
         (None, q) => q,
@@ -21,7 +21,7 @@ pub fn longer(p: Option<Piece>, q: Option<Piece>) -> Option<Piece>
 
 /// The longest blank, comment or token at the front.
 pub fn first_piece(text: &[u8]) -> Option<Piece>
-    ensures value { result ≡ spec.piece text.now }
+    ensures value { result ≡ lexeme.piece text.now }
     ensures some { IfSome result (λ p. 0 < p.len) }
     ensures within { IfSome result (λ p. p.len ≤ length text.now) }
 {

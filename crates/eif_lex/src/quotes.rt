@@ -1,6 +1,6 @@
 ghost use Rattle.std.specs.Prelude.{◌≡◌, ◌≤◌, ◌<◌, ◌+◌, length, IfSome};
 ghost use Rattle.std.specs.Option.{option_map};
-ghost use Rattle.eif_grammar.specs.Lexemes as spec;
+ghost use Rattle.eif_grammar.specs.Lexemes as lexeme;
 ghost use Rattle.eif_lex.specs.Items.{escape_of, string_item};
 
 use crate::fronts::{begins_with, behind, digits_run, front, token};
@@ -15,7 +15,7 @@ pub struct Item {
 }
 
 fn escaped(c: u8) -> Option<u8>
-    ensures { result ≡ spec.escaped c }
+    ensures { result ≡ lexeme.escaped c }
 {
     match c {
         b'N' => Some(10),
@@ -45,7 +45,7 @@ fn escaped(c: u8) -> Option<u8>
 
 /// The item of `%/` and what is behind it.
 fn numbered(text: &[u8]) -> Option<Item>
-    ensures value { option_map escape_of result ≡ spec.numbered text.now }
+    ensures value { option_map escape_of result ≡ lexeme.numbered text.now }
     ensures some { IfSome result (λ e. 0 < e.len) }
     ensures within { IfSome result (λ e. e.len ≤ length text.now + 2) }
 {
@@ -63,7 +63,7 @@ fn numbered(text: &[u8]) -> Option<Item>
 
 /// The escape at the front.
 pub fn escape(text: &[u8]) -> Option<Item>
-    ensures value { option_map escape_of result ≡ spec.escape text.now }
+    ensures value { option_map escape_of result ≡ lexeme.escape text.now }
     ensures some { IfSome result (λ e. 0 < e.len) }
     ensures within { IfSome result (λ e. e.len ≤ length text.now) }
 {
@@ -78,14 +78,14 @@ pub fn escape(text: &[u8]) -> Option<Item>
 }
 
 fn is_plain(b: u8) -> bool
-    ensures { result ≡ spec.is_plain b }
+    ensures { result ≡ lexeme.is_plain b }
 {
     b' ' <= b && b <= b'~' && b != b'%' && b != b'\''
 }
 
 /// The plain byte or the escape at the front.
 pub fn character_item(text: &[u8]) -> Option<Item>
-    ensures value { option_map escape_of result ≡ spec.character_item text.now }
+    ensures value { option_map escape_of result ≡ lexeme.character_item text.now }
     ensures some { IfSome result (λ e. 0 < e.len) }
     ensures within { IfSome result (λ e. e.len ≤ length text.now) }
 {
@@ -97,7 +97,7 @@ pub fn character_item(text: &[u8]) -> Option<Item>
 
 /// A character literal.
 pub fn character(text: &[u8]) -> Option<Piece>
-    ensures value { result ≡ spec.character text.now }
+    ensures value { result ≡ lexeme.character text.now }
     ensures some { IfSome result (λ p. 0 < p.len) }
     ensures within { IfSome result (λ p. p.len ≤ length text.now) }
 {
@@ -128,7 +128,7 @@ fn string_item(text: &[u8]) -> Option<usize>
 
 /// How many bytes there are up to and with the closing quote.
 fn quote_length(text: &[u8]) -> Option<usize>
-    ensures value { result ≡ spec.quote_length 0 text.now }
+    ensures value { result ≡ lexeme.quote_length 0 text.now }
     ensures within { IfSome result (λ n. n ≤ length text.now) }
 {
     let mut n = 0;
@@ -144,7 +144,7 @@ fn quote_length(text: &[u8]) -> Option<usize>
 
 /// A string literal.
 pub fn string(text: &[u8]) -> Option<Piece>
-    ensures value { result ≡ spec.string text.now }
+    ensures value { result ≡ lexeme.string text.now }
     ensures some { IfSome result (λ p. 0 < p.len) }
     ensures within { IfSome result (λ p. p.len ≤ length text.now) }
 {
@@ -157,7 +157,7 @@ pub fn string(text: &[u8]) -> Option<Piece>
 
 /// Whether blanks and a line feed stand at the front.
 fn ends_line(mut text: &[u8]) -> bool
-    ensures { result ≡ spec.ends_line text.entry.now }
+    ensures { result ≡ lexeme.ends_line text.entry.now }
 {
     'blanks: while let [b' ' | b'\t' | b'\r', rest @ ..] = text {
         text = rest;
@@ -167,7 +167,7 @@ fn ends_line(mut text: &[u8]) -> bool
 
 /// Whether the rest of a line opens a verbatim string.
 fn opens_verbatim(mut text: &[u8]) -> bool
-    ensures { result ≡ spec.opens_verbatim text.entry.now }
+    ensures { result ≡ lexeme.opens_verbatim text.entry.now }
 {
     'bytes: while let [b, rest @ ..] = text {
         if (*b == b'[' || *b == b'{') && ends_line(rest) {
@@ -183,7 +183,7 @@ fn opens_verbatim(mut text: &[u8]) -> bool
 
 /// A verbatim string: all of the text.
 pub fn verbatim(text: &[u8]) -> Option<Piece>
-    ensures value { result ≡ spec.verbatim text.now }
+    ensures value { result ≡ lexeme.verbatim text.now }
     ensures some { IfSome result (λ p. 0 < p.len) }
     ensures within { IfSome result (λ p. p.len ≤ length text.now) }
 {

@@ -1,5 +1,5 @@
 ghost use Rattle.std.specs.Prelude.{◌≡◌, ◌≤◌, ◌<◌, length, map, IfSome};
-ghost use Rattle.eif_grammar.specs.Lexemes as spec;
+ghost use Rattle.eif_grammar.specs.Lexemes as lexeme;
 
 use crate::fronts::token;
 use crate::piece::longer;
@@ -48,7 +48,7 @@ const SYMBOLS: [(&[u8], Terminal); 37] = [
 
 /// The longest row with which the text begins.
 fn longest_row(rows: &[(&[u8], Terminal)], text: &[u8]) -> Option<Piece>
-    ensures { result ≡ spec.longest_row (map (λ r. (r.0.now, r.1)) rows.now) text.now }
+    ensures { result ≡ lexeme.longest_row (map (λ r. (r.0.now, r.1)) rows.now) text.now }
 {
     let mut longest = None;
     let mut i = rows.len();
@@ -64,7 +64,7 @@ fn longest_row(rows: &[(&[u8], Terminal)], text: &[u8]) -> Option<Piece>
 
 /// The longest symbol.
 pub fn symbol(text: &[u8]) -> Option<Piece>
-    ensures value { result ≡ spec.symbol text.now }
+    ensures value { result ≡ lexeme.symbol text.now }
     ensures some { IfSome result (λ p. 0 < p.len) }
     ensures within { IfSome result (λ p. p.len ≤ length text.now) }
 {

@@ -1,7 +1,7 @@
 ghost use Rattle.std.specs.Prelude.{◌≡◌, ◌≤◌, ◌<◌, length, map, IfSome};
 ghost use Rattle.std.specs.Str.{str_eq_ignore_ascii_case};
 ghost use Rattle.eif_grammar.specs.Identifiers.{is_identifier, is_identifier_terminal};
-ghost use Rattle.eif_grammar.specs.Lexemes as spec;
+ghost use Rattle.eif_grammar.specs.Lexemes as lexeme;
 ghost use Rattle.eif_lex.specs.Rows.{listed_in_any_case};
 
 use crate::fronts::{begins_with_letter, front, token, word_run};
@@ -94,14 +94,14 @@ fn look_up(mut rows: &[(&[u8], Terminal)], word: &[u8]) -> Option<Terminal>
 
 #[tactic(auto, using(crate::proofs::Rows::word_laws))]
 pub fn word_terminal(word: &[u8]) -> Terminal
-    ensures { result ≡ spec.word_terminal word.now }
+    ensures { result ≡ lexeme.word_terminal word.now }
 {
     look_up(&WORDS, word).unwrap_or(Terminal::Identifier)
 }
 
 /// An identifier or a word.
 pub fn word(text: &[u8]) -> Option<Piece>
-    ensures value { result ≡ spec.word text.now }
+    ensures value { result ≡ lexeme.word text.now }
     ensures some { IfSome result (λ p. 0 < p.len) }
     ensures within { IfSome result (λ p. p.len ≤ length text.now) }
 {

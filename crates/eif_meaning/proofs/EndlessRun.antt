@@ -3,7 +3,7 @@ use Rattle.std.proofs.Common.{◌≡◌, ℕ, zero, suc, List, [], ◌∷◌, re
 use Rattle.eif_meaning.specs.Values.{Store, Outcome, cut_off, after}
 use Rattle.eif_meaning.specs.System.{system_of}
 use Rattle.eif_meaning.specs.Run.{unfinished, ran, new_object, level}
-use Rattle.eif_meaning.specs.Examples.{app, make, calling, procedure, app_with, run_app, endless}
+use Rattle.eif_meaning.specs.RunExamples.{app, make, calling, procedure, app_with, run_app, endless}
 use Rattle.eif_tree.specs.Tree.{no_inss}
 
 after_cut : {A B : Type 0} (o : Outcome A) (f : Store → A → Outcome B) (w : List ℕ) → o ≡ cut_off w → after o f ≡ cut_off w

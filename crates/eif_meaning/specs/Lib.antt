@@ -1,5 +1,5 @@
-pub mod Examples
 pub mod Growth
 pub mod Run
+pub mod RunExamples
 pub mod System
 pub mod Values

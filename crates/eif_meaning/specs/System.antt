@@ -3,7 +3,7 @@ use Rattle.std.specs.Prelude.{ℕ, Bool, false, not, if◌then◌else◌, List, 
 use Rattle.std.specs.Option.{option_map, option_map_or, option_and_then}
 use Rattle.std.specs.Str.{bytes_eq}
 use Rattle.eif_tree.specs.Tree.{ClassT, DeclT}
-use Rattle.eif_tree.specs.Parts.{has_name, declarations}
+use Rattle.eif_tree.specs.Members.{has_name, declarations}
 
 -- where a feature comes from: the class that declares it, and its declaration
 pub record Origin : Type 0 where

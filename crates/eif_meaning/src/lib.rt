@@ -1,7 +1,7 @@
 //! What a run of a system does, and laws of runs.
 #![tactic(auto)]
 
-ghost use Rattle.eif_meaning.specs.Examples.{WorkedRuns};
+ghost use Rattle.eif_meaning.specs.RunExamples.{WorkedRuns};
 ghost use Rattle.eif_meaning.specs.Growth.{RunsGrow};
 
 /// A run that is not cut off is the same under every larger bound on the levels of calls.

@@ -15,8 +15,8 @@ use Rattle.eif_grammar.specs.Outcomes.{Outcome, got, refused, Runs, Calls}
 use Rattle.eif_grammar_laws.proofs.Readers.{rule_runs, called_parts, by_rule, called, call_refused, looked, forked, forked_not, ended}
 use Rattle.eif_grammar_laws.proofs.Taken.{tail}
 use Rattle.eif_grammar_laws.proofs.Terminals.{on_found, on_other}
-use Rattle.eif_parse.specs.Subrules.{names_behind, maybe_clients}
-use Rattle.eif_parse_expr.specs.Reads.{first, Taken}
+use Rattle.eif_parse.specs.ClassSubrules.{names_behind, maybe_clients}
+use Rattle.eif_parse_expr.specs.Readings.{first, Taken}
 use Rattle.eif_parse_expr.specs.Subrules.{bind}
 use Rattle.eif_parse_expr.proofs.Onward.{runs_shrink, token_takes, further}
 use Rattle.eif_parse_expr.proofs.Steps.{on_here, token_here}

@@ -14,11 +14,11 @@ use Rattle.eif_grammar_laws.proofs.InstructionSound.{instruction_means}
 use Rattle.eif_grammar_laws.proofs.Readers.{by_rule, called, call_refused, taken, ended, rule_runs, called_parts}
 use Rattle.eif_grammar_laws.proofs.Taken.{tail}
 use Rattle.eif_grammar_laws.proofs.Terminals.{on_found, on_other}
-use Rattle.eif_parse_expr.specs.Reads.{first, Taken}
+use Rattle.eif_parse_expr.specs.Readings.{first, Taken}
 use Rattle.eif_parse_expr.proofs.Bind.{bound, bound_refused}
 use Rattle.eif_parse_expr.proofs.Onward.{runs_shrink, token_takes, further}
 use Rattle.eif_parse_expr.proofs.Steps.{on_here, token_here, expect_here, other_here}
-use Rattle.eif_parse.specs.Subrules.{names_behind}
+use Rattle.eif_parse.specs.ClassSubrules.{names_behind}
 use Rattle.eif_parse.proofs.Lists.{behind, part_first, part_and_semis_first}
 
 -- ---- one group

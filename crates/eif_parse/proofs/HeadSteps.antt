@@ -13,10 +13,10 @@ use Rattle.eif_grammar.specs.Outcomes.{Outcome, got, refused, Runs, Calls}
 use Rattle.eif_grammar_laws.proofs.Readers.{by_rule, called, call_refused, ended}
 use Rattle.eif_grammar_laws.proofs.Taken.{tail}
 use Rattle.eif_grammar_laws.proofs.Terminals.{on_other}
-use Rattle.eif_parse_expr.specs.Reads.{first, Taken}
+use Rattle.eif_parse_expr.specs.Readings.{first, Taken}
 use Rattle.eif_parse_expr.proofs.Bind.{bound, bound_refused}
 use Rattle.eif_parse_expr.proofs.Steps.{on_here, token_here, expect_here, other_here}
-use Rattle.eif_parse.specs.Subrules.{formal_list, maybe_clients}
+use Rattle.eif_parse.specs.ClassSubrules.{formal_list, maybe_clients}
 use Rattle.eif_parse.proofs.Lists.{behind, part_first}
 
 -- ---- formals

@@ -10,7 +10,7 @@ use Rattle.eif_grammar.specs.Outcomes.{Outcome, got, refused, Calls}
 use Rattle.eif_grammar_laws.proofs.Readers.{by_rule, called, ended}
 use Rattle.eif_grammar_laws.proofs.Taken.{tail}
 use Rattle.eif_grammar_laws.proofs.Terminals.{on_other}
-use Rattle.eif_parse_expr.specs.Reads.{first, Taken}
+use Rattle.eif_parse_expr.specs.Readings.{first, Taken}
 use Rattle.eif_parse_expr.proofs.Steps.{on_here, token_here, expect_here, other_here}
 use Rattle.eif_parse.proofs.Lists.{behind, part_first}
 

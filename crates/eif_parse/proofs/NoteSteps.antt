@@ -14,10 +14,10 @@ use Rattle.eif_grammar.specs.Tokens.{Token}
 use Rattle.eif_grammar_laws.proofs.Readers.{by_rule, looked, called, taken, ended}
 use Rattle.eif_grammar_laws.proofs.Taken.{tail}
 use Rattle.eif_grammar_laws.proofs.Terminals.{on_other}
-use Rattle.eif_parse_expr.specs.Reads.{first, Taken}
+use Rattle.eif_parse_expr.specs.Readings.{first, Taken}
 use Rattle.eif_parse_expr.proofs.Bind.{bound}
 use Rattle.eif_parse_expr.proofs.Steps.{cut_taken, on_here, expect_here}
-use Rattle.eif_parse.specs.Subrules.{literal_value, note_items}
+use Rattle.eif_parse.specs.ClassSubrules.{literal_value, note_items}
 
 -- ---- literals
 

@@ -19,13 +19,13 @@ use Rattle.eif_grammar_laws.proofs.Readers.{by_rule, rule_runs, called_parts, lo
 use Rattle.eif_grammar_laws.proofs.StepsBack.{look_back}
 use Rattle.eif_grammar_laws.proofs.Taken.{tail}
 use Rattle.eif_grammar_laws.proofs.Terminals.{on_found, on_other}
-use Rattle.eif_parse_expr.specs.Reads.{Taken}
+use Rattle.eif_parse_expr.specs.Readings.{Taken}
 use Rattle.eif_parse_expr.specs.Subrules.{bind}
 use Rattle.eif_parse_expr.proofs.Bind.{bound, bound_refused}
 use Rattle.eif_parse_expr.proofs.Onward.{runs_shrink, token_takes, guard_takes, further}
 use Rattle.eif_parse_expr.proofs.Steps.{next_here, on_here}
 use Rattle.eif_parse.specs.declared.parents.ClauseKind.{ClauseKind}
-use Rattle.eif_parse.specs.Subrules.{clause_of, clause, clause_with, clause_body}
+use Rattle.eif_parse.specs.ClassSubrules.{clause_of, clause, clause_with, clause_body}
 use Rattle.eif_parse.proofs.Lists.{behind, part_first, part_and_semis_first}
 
 -- ---- renamings

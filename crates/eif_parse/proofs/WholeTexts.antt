@@ -14,7 +14,7 @@ use Rattle.eif_grammar_laws.proofs.FrontLaws.{longest_text, longest_text_behind}
 use Rattle.eif_parse_expr.specs.declared.PartError.{PartError}
 use Rattle.eif_parse_expr.specs.declared.PartError.TheVariants.{At, Memory}
 use Rattle.eif_parse_expr.specs.declared.Parsed.{Parsed}
-use Rattle.eif_parse_expr.specs.Reads.{Reads}
+use Rattle.eif_parse_expr.specs.Readings.{Reads}
 use Rattle.eif_parse.specs.Parses.{IsWhole}
 
 some_same : {A : Type 0} {a b : A} → Some a ≡ Some b → a ≡ b

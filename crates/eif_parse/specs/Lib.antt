@@ -1,2 +1,2 @@
+pub mod ClassSubrules
 pub mod Parses
-pub mod Subrules

@@ -8,7 +8,7 @@ use Rattle.eif_grammar.specs.Parts.{TextPart, OnlyText, LongestFront, IsSyntaxFa
 use Rattle.eif_parse.specs.declared.error.ParseError.{ParseError}
 use Rattle.eif_parse.specs.declared.error.ParseError.TheVariants.{Left, Syntax, Memory}
 use Rattle.eif_parse_expr.specs.declared.PartError.{PartError}
-use Rattle.eif_parse_expr.specs.declared.PartError.TheVariants as e
+use Rattle.eif_parse_expr.specs.declared.PartError.TheVariants as error
 
 abbrev pub Parses : TokenList → Result ClassTree ParseError → Type 0
 -- nothing is left out, and this is the one class text
@@ -23,5 +23,5 @@ Parses list (Err Memory) = Unit {0}
 -- the tokens are this one class text, or none, and that many of them are the longest front that begins one
 abbrev pub IsWhole : List Token → Result ClassTree PartError → Type 0
 IsWhole tokens (Ok tree) = OnlyText tokens (class_view tree)
-IsWhole tokens (Err (e.At p)) = LongestFront TextPart tokens (drop p tokens)
-IsWhole tokens (Err e.Memory) = Unit {0}
+IsWhole tokens (Err (error.At p)) = LongestFront TextPart tokens (drop p tokens)
+IsWhole tokens (Err error.Memory) = Unit {0}

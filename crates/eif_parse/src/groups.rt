@@ -6,11 +6,11 @@ ghost use Rattle.eif_tree.specs.View.{group_view, type_view};
 ghost use Rattle.eif_grammar.specs.ClassRules as rules;
 ghost use Rattle.eif_grammar.specs.Goals as goal;
 ghost use Rattle.eif_grammar.specs.Outcomes.{Calls, Runs};
-ghost use Rattle.eif_parse.specs.Subrules as rule;
-ghost use Rattle.eif_parse_expr.specs.Reads.{Reads};
+ghost use Rattle.eif_parse.specs.ClassSubrules as rule;
+ghost use Rattle.eif_parse_expr.specs.Readings.{Reads};
 
 use crate::names::names_behind;
-use crate::part::MOST_HEIGHT;
+use eif_base::limits::MOST_HEIGHT;
 use eif_grammar::Terminal;
 use eif_lex::Tokens;
 use eif_parse_expr::look::{behind, expect, is_at, name_behind};

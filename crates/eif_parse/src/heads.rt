@@ -4,11 +4,11 @@ ghost use Rattle.std.specs.Prelude.{◌≤◌, drop, length};
 ghost use Rattle.eif_tree.specs.View.{clients_view, formal_view};
 ghost use Rattle.eif_grammar.specs.Goals as goal;
 ghost use Rattle.eif_grammar.specs.Outcomes.{Calls, Runs};
-ghost use Rattle.eif_parse.specs.Subrules as rule;
-ghost use Rattle.eif_parse_expr.specs.Reads.{Reads};
+ghost use Rattle.eif_parse.specs.ClassSubrules as rule;
+ghost use Rattle.eif_parse_expr.specs.Readings.{Reads};
 
 use crate::names::names;
-use crate::part::MOST_HEIGHT;
+use eif_base::limits::MOST_HEIGHT;
 use eif_grammar::Terminal;
 use eif_lex::Tokens;
 use eif_parse_expr::look::{behind, expect, is_at, name_behind};

@@ -9,7 +9,6 @@ mod heads;
 mod names;
 mod notes;
 mod parents;
-mod part;
 mod routines;
 #[cfg(test)]
 mod tests;

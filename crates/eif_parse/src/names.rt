@@ -3,8 +3,8 @@
 ghost use Rattle.std.specs.Prelude.{◌≤◌, drop, length};
 ghost use Rattle.eif_grammar.specs.Goals as goal;
 ghost use Rattle.eif_grammar.specs.Outcomes.{Calls, Runs};
-ghost use Rattle.eif_parse.specs.Subrules as rule;
-ghost use Rattle.eif_parse_expr.specs.Reads.{Reads};
+ghost use Rattle.eif_parse.specs.ClassSubrules as rule;
+ghost use Rattle.eif_parse_expr.specs.Readings.{Reads};
 
 use eif_grammar::Terminal;
 use eif_lex::Tokens;

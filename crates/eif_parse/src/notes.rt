@@ -5,8 +5,8 @@ ghost use Rattle.eif_grammar.specs.Goals as goal;
 ghost use Rattle.eif_grammar.specs.Outcomes.{Calls, Runs};
 ghost use Rattle.eif_grammar.specs.Spelling.{head};
 ghost use Rattle.eif_grammar.specs.declared.terminal.Terminal.TheVariants as t;
-ghost use Rattle.eif_parse.specs.Subrules as rule;
-ghost use Rattle.eif_parse_expr.specs.Reads.{first, Reads};
+ghost use Rattle.eif_parse.specs.ClassSubrules as rule;
+ghost use Rattle.eif_parse_expr.specs.Readings.{first, Reads};
 
 use eif_base::Memory;
 use eif_grammar::Terminal;

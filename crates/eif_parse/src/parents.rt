@@ -8,12 +8,12 @@ ghost use Rattle.eif_grammar.specs.Goals as goal;
 ghost use Rattle.eif_grammar.specs.Outcomes.{Calls, Runs};
 ghost use Rattle.eif_grammar.specs.SpelledClasses.{clause_length};
 ghost use Rattle.eif_grammar.specs.Spelling.{head};
-ghost use Rattle.eif_parse.specs.Subrules as rule;
-ghost use Rattle.eif_parse_expr.specs.Reads.{Reads};
+ghost use Rattle.eif_parse.specs.ClassSubrules as rule;
+ghost use Rattle.eif_parse_expr.specs.Readings.{Reads};
 
 use crate::heads::clients;
 use crate::names::names;
-use crate::part::MOST_HEIGHT;
+use eif_base::limits::MOST_HEIGHT;
 use eif_grammar::Terminal;
 use eif_lex::Tokens;
 use eif_parse_expr::look::{after, behind, expect, is_at, name_behind, place_at};

@@ -6,13 +6,13 @@ ghost use Rattle.eif_tree.specs.View.{decl_view, kind_view, type_view};
 ghost use Rattle.eif_grammar.specs.Goals as goal;
 ghost use Rattle.eif_grammar.specs.Outcomes.{Calls};
 ghost use Rattle.eif_grammar.specs.declared.terminal.Terminal.TheVariants as t;
-ghost use Rattle.eif_parse.specs.Subrules as rule;
+ghost use Rattle.eif_parse.specs.ClassSubrules as rule;
 ghost use Rattle.eif_parse_expr.specs.InstructionSubrules.{assertions_view};
-ghost use Rattle.eif_parse_expr.specs.Reads.{Reads};
+ghost use Rattle.eif_parse_expr.specs.Readings.{Reads};
 
 use crate::groups::locals;
 use crate::notes::obsolete;
-use crate::part::MOST_HEIGHT;
+use eif_base::limits::MOST_HEIGHT;
 use eif_grammar::Terminal;
 use eif_lex::Tokens;
 use eif_parse_expr::look::{behind, expect};

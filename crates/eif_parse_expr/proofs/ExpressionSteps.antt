@@ -21,7 +21,7 @@ use Rattle.eif_grammar_laws.proofs.Taken.{tail, roomy}
 use Rattle.eif_grammar_laws.proofs.Starts.{prefix_starts}
 use Rattle.eif_grammar_laws.proofs.ExpressionSteps.{operand_at, primary_at}
 use Rattle.eif_parse_expr.specs.declared.operators.Sign.{Sign}
-use Rattle.eif_parse_expr.specs.Reads.{first, Taken}
+use Rattle.eif_parse_expr.specs.Readings.{first, Taken}
 use Rattle.eif_parse_expr.specs.Subrules.{bind, of_level, sign, sign_behind, begins_test, TestHeadT, test_head, test_rest, local_behind, closed_type, link, parent_name, leaf_value}
 use Rattle.eif_parse_expr.proofs.Lists.{and_ex_first}
 use Rattle.eif_parse_expr.proofs.Steps.{next_here, on_here, expect_here, other_here, no_room, cut_taken}

@@ -23,7 +23,7 @@ use Rattle.eif_grammar_laws.proofs.InstructionSteps.{instruction_at}
 use Rattle.eif_parse_expr.specs.declared.parsed.PartError.{PartError}
 use Rattle.eif_parse_expr.specs.declared.parsed.PartError.TheVariants.{At, Memory}
 use Rattle.eif_parse_expr.specs.declared.parsed.Parsed.{Parsed}
-use Rattle.eif_parse_expr.specs.Reads.{first, Taken, Reads}
+use Rattle.eif_parse_expr.specs.Readings.{first, Taken, Reads}
 use Rattle.eif_parse_expr.specs.InstructionSubrules.{branch, branch_list}
 use Rattle.eif_parse_expr.specs.Subrules.{bind, closed_type, Names}
 use Rattle.eif_parse_expr.proofs.Bind.{bound, bound_refused}

@@ -10,7 +10,7 @@ use Rattle.eif_grammar.specs.Spelling.{head}
 use Rattle.eif_grammar.specs.Goals.{expression, operand, chain, primary, assertion, instruction, expression_goal, instruction_goal, token}
 use Rattle.eif_grammar.specs.Reader.{Reader, next, guard, fork}
 use Rattle.eif_grammar.specs.ExpressionRules.{OperandStart, braced, attached, prefixed, chained, operand_start, operand_by, PrimaryStart, by_name, by_precursor, by_integer, by_character, by_string, by_true, by_false, by_void, by_current, by_result, by_parenthesis, by_create, no_primary, primary_start, primary_by}
-use Rattle.eif_grammar.specs.InstructionRules as i
+use Rattle.eif_grammar.specs.InstructionRules as instruction
 use Rattle.eif_grammar.specs.Outcomes.{Outcome, got, run, reached, Runs, Calls}
 use Rattle.eif_grammar_laws.proofs.Readers.{left, run_shrinks, reached_shrinks, rule_runs, called_parts}
 use Rattle.eif_grammar_laws.proofs.StepsBack.{look_back, next_back, guard_back, tail_back}
@@ -80,18 +80,18 @@ assertion_takes {room} {e} {ts} c = fork_takes (is t.Identifier (head ts)) ts (�
 -- ---- instructions
 
 instruction_takes : {room : ℕ} {e : Ins} {ts rest : List Token} → Calls (instruction_goal (instruction room)) ts (got e rest) → length rest < length ts
-instruction_takes {room} {e} {ts} {rest} c = go (i.instruction_start (head ts)) (look_back (rule_runs c))
+instruction_takes {room} {e} {ts} {rest} c = go (instruction.instruction_start (head ts)) (look_back (rule_runs c))
   where
-    go : (s : i.InstructionStart) → Runs (i.instruction_by room s) ts (got e rest) → length rest < length ts
-    go i.by_name h = guard_takes (nat_lt 1 room) ts h
-    go i.by_result h = guard_takes (nat_lt 1 room) ts h
-    go i.by_precursor h = guard_takes (nat_lt 1 room) ts h
-    go i.by_current h = guard_takes (nat_lt 2 room) ts h
-    go i.by_create h = next_takes ts h
-    go i.by_if h = guard_takes (nat_lt 1 room) ts h
-    go i.by_from h = guard_takes (nat_lt 1 room) ts h
-    go i.by_check h = next_takes ts h
-    go i.no_instruction h = let e = h.runs in cc
+    go : (s : instruction.InstructionStart) → Runs (instruction.instruction_by room s) ts (got e rest) → length rest < length ts
+    go instruction.by_name h = guard_takes (nat_lt 1 room) ts h
+    go instruction.by_result h = guard_takes (nat_lt 1 room) ts h
+    go instruction.by_precursor h = guard_takes (nat_lt 1 room) ts h
+    go instruction.by_current h = guard_takes (nat_lt 2 room) ts h
+    go instruction.by_create h = next_takes ts h
+    go instruction.by_if h = guard_takes (nat_lt 1 room) ts h
+    go instruction.by_from h = guard_takes (nat_lt 1 room) ts h
+    go instruction.by_check h = next_takes ts h
+    go instruction.no_instruction h = let e = h.runs in cc
 
 -- ---- by the tokens' numbers
 

@@ -14,7 +14,7 @@ use Rattle.eif_grammar_laws.proofs.Terminals.{token_found, token_refused, on_fou
 use Rattle.eif_parse_expr.specs.declared.parsed.PartError.{PartError}
 use Rattle.eif_parse_expr.specs.declared.parsed.PartError.TheVariants.{At, Memory}
 use Rattle.eif_parse_expr.specs.declared.parsed.Parsed.{Parsed}
-use Rattle.eif_parse_expr.specs.Reads.{first, Taken, Takes, Reads}
+use Rattle.eif_parse_expr.specs.Readings.{first, Taken, Takes, Reads}
 use Rattle.eif_parse_expr.specs.Subrules.{Names}
 
 -- ---- what is passed on

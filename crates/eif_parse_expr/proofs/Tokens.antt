@@ -4,7 +4,7 @@ use Rattle.std.specs.Option.{option_map}
 use Rattle.eif_grammar.specs.declared.terminal.Terminal.TheVariants as t
 use Rattle.eif_grammar.specs.Tokens.{Token}
 use Rattle.eif_grammar.specs.Spelling.{head}
-use Rattle.eif_parse_expr.specs.Reads.{first}
+use Rattle.eif_parse_expr.specs.Readings.{first}
 
 some_same : {A : Type 0} {a b : A} → Some a ≡ Some b → a ≡ b
 some_same e = cc

@@ -16,7 +16,7 @@ use Rattle.eif_grammar_laws.proofs.Terminals.{on_found, on_other}
 use Rattle.eif_grammar_laws.proofs.Taken.{roomy}
 use Rattle.eif_grammar_laws.proofs.StepsBack.{look_back}
 use Rattle.eif_parse_expr.specs.declared.types.TypeHead.{TypeHead}
-use Rattle.eif_parse_expr.specs.Reads.{Taken}
+use Rattle.eif_parse_expr.specs.Readings.{Taken}
 use Rattle.eif_parse_expr.specs.Subrules.{bind, mark_of, type_head, type_head_by, headed, type_list}
 use Rattle.eif_parse_expr.proofs.Lists.{and_type_first}
 use Rattle.eif_parse_expr.proofs.Steps.{next_here, on_here}

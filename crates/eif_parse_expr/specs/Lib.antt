@@ -1,4 +1,4 @@
 pub mod InstructionSubrules
-pub mod Parts
-pub mod Reads
+pub mod ReadParts
+pub mod Readings
 pub mod Subrules

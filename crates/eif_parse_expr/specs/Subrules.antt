@@ -8,7 +8,7 @@ use Rattle.eif_tree.specs.declared.NameAt.{NameAt}
 use Rattle.eif_tree.specs.declared.Op.{Op}
 use Rattle.eif_tree.specs.declared.Literal.TheVariants as lit
 use Rattle.eif_tree.specs.Tree.{TypeT, Types, type_at, and_type, Ex, literal, void_value, current_value, result_value, qualified, test}
-use Rattle.eif_tree.specs.Places.{place_of}
+use Rattle.eif_tree.specs.ExpressionPlaces.{place_of}
 use Rattle.eif_tree.specs.View.{type_view}
 use Rattle.eif_grammar.specs.declared.terminal.Terminal.{Terminal}
 use Rattle.eif_grammar.specs.declared.terminal.Terminal.TheVariants as t
@@ -27,7 +27,7 @@ use Rattle.eif_parse_expr.specs.declared.types.TypeHead.{TypeHead}
 use Rattle.eif_parse_expr.specs.declared.parsed.PartError.{PartError}
 use Rattle.eif_parse_expr.specs.declared.parsed.PartError.TheVariants.{At, Memory}
 use Rattle.eif_parse_expr.specs.declared.parsed.Parsed.{Parsed}
-use Rattle.eif_parse_expr.specs.Reads.{first, Taken, exs_view}
+use Rattle.eif_parse_expr.specs.Readings.{first, Taken, exs_view}
 
 -- one reader and then another, by what the first found
 abbrev pub bind : {A B : Type 0} → Reader A → (A → Reader B) → Reader B

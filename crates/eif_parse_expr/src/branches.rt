@@ -9,7 +9,7 @@ ghost use Rattle.eif_grammar.specs.Spelling.{head};
 ghost use Rattle.eif_grammar.specs.declared.terminal.Terminal.TheVariants as t;
 ghost use Rattle.eif_parse_expr.specs.InstructionSubrules as rule;
 ghost use Rattle.eif_parse_expr.specs.InstructionSubrules.{branches_view, otherwise_view};
-ghost use Rattle.eif_parse_expr.specs.Reads.{Reads};
+ghost use Rattle.eif_parse_expr.specs.Readings.{Reads};
 
 use crate::compounds::compound;
 use crate::expressions::expression;

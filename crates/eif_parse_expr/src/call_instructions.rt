@@ -4,11 +4,11 @@ ghost use Rattle.std.specs.Prelude.{◌≡◌, ◌≤◌, ◌<◌, drop, length,
 ghost use Rattle.eif_tree.specs.Height as tall;
 ghost use Rattle.eif_tree.specs.View.{expr_view, instr_view};
 ghost use Rattle.eif_grammar.specs.Goals as goal;
-ghost use Rattle.eif_grammar.specs.InstructionRules as rule;
+ghost use Rattle.eif_grammar.specs.InstructionRules as instruction;
 ghost use Rattle.eif_grammar.specs.Outcomes.{Calls, Runs};
 ghost use Rattle.eif_grammar.specs.Spelling.{head};
 ghost use Rattle.eif_grammar.specs.declared.terminal.Terminal.TheVariants as t;
-ghost use Rattle.eif_parse_expr.specs.Reads.{Reads};
+ghost use Rattle.eif_parse_expr.specs.Readings.{Reads};
 
 use crate::chains::{arguments, dots, dotted, precursor_rest};
 use crate::look::{after, is_at, name_at, place_at};
@@ -31,7 +31,7 @@ fn called_on(
     requires some { 1 < room }
     requires height { first.height ≡ tall.height (expr_view first.tree) }
     requires low { first.height < room }
-    ensures reads { Reads (Runs (rule.called_on room (expr_view first.tree)) (drop first.next tokens.now.tokens)) instr_view tokens.now.tokens first.next result }
+    ensures reads { Reads (Runs (instruction.called_on room (expr_view first.tree)) (drop first.next tokens.now.tokens)) instr_view tokens.now.tokens first.next result }
     ensures height { IfOk result (λ x. x.height ≡ tall.instr_height (instr_view x.tree)) }
     ensures low { IfOk result (λ x. x.height ≤ room) }
 {
@@ -54,7 +54,7 @@ fn called_through(
     requires some { 1 < room }
     requires height { first.height ≡ tall.height (expr_view first.tree) }
     requires low { first.height < room }
-    ensures reads { Reads (Runs (rule.called_through room (expr_view first.tree)) (drop first.next tokens.now.tokens)) instr_view tokens.now.tokens first.next result }
+    ensures reads { Reads (Runs (instruction.called_through room (expr_view first.tree)) (drop first.next tokens.now.tokens)) instr_view tokens.now.tokens first.next result }
     ensures height { IfOk result (λ x. x.height ≡ tall.instr_height (instr_view x.tree)) }
     ensures low { IfOk result (λ x. x.height ≤ room) }
 {

@@ -5,7 +5,7 @@ ghost use Rattle.eif_tree.specs.Height as tall;
 ghost use Rattle.eif_tree.specs.View.{expr_view};
 ghost use Rattle.eif_grammar.specs.Goals as goal;
 ghost use Rattle.eif_grammar.specs.Outcomes.{Calls, Runs};
-ghost use Rattle.eif_parse_expr.specs.Reads.{Reads, exs_view};
+ghost use Rattle.eif_parse_expr.specs.Readings.{Reads, exs_view};
 ghost use Rattle.eif_parse_expr.specs.Subrules as rule;
 
 use crate::expressions::expression;

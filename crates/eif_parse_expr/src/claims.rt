@@ -4,11 +4,11 @@ ghost use Rattle.std.specs.Prelude.{◌≡◌, ◌≤◌, drop, length, IfOk};
 ghost use Rattle.std.specs.Option.{option_map};
 ghost use Rattle.eif_tree.specs.Height as tall;
 ghost use Rattle.eif_tree.specs.View.{expr_view};
-ghost use Rattle.eif_grammar.specs.Forms as spec;
+ghost use Rattle.eif_grammar.specs.Forms as form;
 ghost use Rattle.eif_grammar.specs.Goals as goal;
 ghost use Rattle.eif_grammar.specs.Outcomes.{Calls, got};
 ghost use Rattle.eif_parse_expr.specs.InstructionSubrules.{assertions_view};
-ghost use Rattle.eif_parse_expr.specs.Reads.{Leaves, Reads};
+ghost use Rattle.eif_parse_expr.specs.Readings.{Leaves, Reads};
 
 use crate::expressions::expression;
 use crate::look::behind;
@@ -20,7 +20,7 @@ use eif_tree::{Assertion, Expr};
 use std::alloc::Global;
 
 fn begins_expression(terminal: Terminal) -> bool
-    ensures { result ≡ spec.begins_expression terminal }
+    ensures { result ≡ form.begins_expression terminal }
 {
     match terminal {
         Terminal::Identifier

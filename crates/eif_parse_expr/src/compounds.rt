@@ -2,11 +2,11 @@
 
 ghost use Rattle.std.specs.Prelude.{◌≡◌, ◌≤◌, drop, length, IfOk};
 ghost use Rattle.eif_tree.specs.Height as tall;
-ghost use Rattle.eif_grammar.specs.Forms as spec;
+ghost use Rattle.eif_grammar.specs.Forms as form;
 ghost use Rattle.eif_grammar.specs.Goals as goal;
 ghost use Rattle.eif_grammar.specs.Outcomes.{Calls};
 ghost use Rattle.eif_parse_expr.specs.InstructionSubrules.{inss_view};
-ghost use Rattle.eif_parse_expr.specs.Reads.{Reads};
+ghost use Rattle.eif_parse_expr.specs.Readings.{Reads};
 
 use crate::instructions::instruction;
 use crate::look::behind;
@@ -17,7 +17,7 @@ use eif_tree::Instr;
 use std::alloc::Global;
 
 fn begins_instruction(terminal: Terminal) -> bool
-    ensures { result ≡ spec.begins_instruction terminal }
+    ensures { result ≡ form.begins_instruction terminal }
 {
     match terminal {
         Terminal::Identifier

@@ -5,7 +5,7 @@ ghost use Rattle.eif_tree.specs.Height as tall;
 ghost use Rattle.eif_tree.specs.View.{expr_view};
 ghost use Rattle.eif_grammar.specs.Goals as goal;
 ghost use Rattle.eif_grammar.specs.Outcomes.{Calls};
-ghost use Rattle.eif_parse_expr.specs.Reads.{Reads};
+ghost use Rattle.eif_parse_expr.specs.Readings.{Reads};
 
 use crate::operands::operand;
 use crate::operators::{operator_at, right_level, sign_at};

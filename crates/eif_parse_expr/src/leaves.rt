@@ -8,7 +8,7 @@ ghost use Rattle.eif_grammar.specs.Goals as goal;
 ghost use Rattle.eif_grammar.specs.Outcomes.{Calls};
 ghost use Rattle.eif_grammar.specs.Spelling.{head};
 ghost use Rattle.eif_grammar.specs.declared.terminal.Terminal.TheVariants as t;
-ghost use Rattle.eif_parse_expr.specs.Reads.{first, Reads};
+ghost use Rattle.eif_parse_expr.specs.Readings.{first, Reads};
 ghost use Rattle.eif_parse_expr.specs.Subrules as rule;
 
 use crate::look::{after, character_at, integer_at, place_at, string_at};

@@ -22,10 +22,8 @@ mod targets;
 mod tests;
 mod types;
 
-pub use chains::{CreatorCall, arguments, creator, dots, dotted, precursor_rest};
 pub use claims::{assertions, invariants, semis};
 pub use compounds::compound;
-pub use expressions::expression;
 pub use parsed::{Parsed, PartError};
 pub use part::{parse_compound, parse_expr, parse_type};
-pub use types::{closed_type, unmarked_type, written_type};
+pub use types::{unmarked_type, written_type};

@@ -1,11 +1,11 @@
 //! What single tokens are, by their numbers.
 
 ghost use Rattle.std.specs.Prelude.{◌≡◌, ◌≢◌, drop, IfOk, IsTrue, ◌↔◌};
-ghost use Rattle.eif_grammar.specs.Literals as spec;
+ghost use Rattle.eif_grammar.specs.Literals as literal;
 ghost use Rattle.eif_grammar.specs.Reader.{name_of};
 ghost use Rattle.eif_grammar.specs.Spelling.{head};
 ghost use Rattle.eif_grammar.specs.declared.terminal.Terminal.TheVariants as t;
-ghost use Rattle.eif_parse_expr.specs.Reads.{first, Taken, Takes, Finds};
+ghost use Rattle.eif_parse_expr.specs.Readings.{first, Taken, Takes, Finds};
 ghost use Rattle.eif_parse_expr.specs.Subrules.{Names};
 
 use crate::parsed::{Parsed, PartError};
@@ -37,7 +37,7 @@ pub fn place_at(tokens: &Tokens<'_>, at: u32) -> Place
 }
 
 /// The name that token `at` is.
-pub fn name_at(alloc: Global, tokens: &Tokens<'_>, at: u32) -> Result<NameAt, Memory>
+pub(crate) fn name_at(alloc: Global, tokens: &Tokens<'_>, at: u32) -> Result<NameAt, Memory>
     requires { head (drop at tokens.now.tokens) ≢ t.EndOfText }
     ensures { IfOk result (λ n. n ≡ name_of (first (drop at tokens.now.tokens))) }
 {
@@ -50,7 +50,7 @@ pub fn name_at(alloc: Global, tokens: &Tokens<'_>, at: u32) -> Result<NameAt, Me
 /// The value of token `at`, an integer.
 pub fn integer_at(tokens: &Tokens<'_>, at: u32) -> i64
     requires { head (drop at tokens.now.tokens) ≡ t.Integer }
-    ensures { result ≡ spec.integer_value (first (drop at tokens.now.tokens)).text }
+    ensures { result ≡ literal.integer_value (first (drop at tokens.now.tokens)).text }
 {
     tokens.integer(at)
 }
@@ -58,7 +58,7 @@ pub fn integer_at(tokens: &Tokens<'_>, at: u32) -> i64
 /// The byte of token `at`, a character.
 pub fn character_at(tokens: &Tokens<'_>, at: u32) -> u8
     requires { head (drop at tokens.now.tokens) ≢ t.EndOfText }
-    ensures { result ≡ spec.character_value (first (drop at tokens.now.tokens)).text }
+    ensures { result ≡ literal.character_value (first (drop at tokens.now.tokens)).text }
 {
     character_value(tokens.text(at))
 }
@@ -66,7 +66,7 @@ pub fn character_at(tokens: &Tokens<'_>, at: u32) -> u8
 /// The bytes of token `at`, a string.
 pub fn string_at(alloc: Global, tokens: &Tokens<'_>, at: u32) -> Result<Bytes, Memory>
     requires { head (drop at tokens.now.tokens) ≢ t.EndOfText }
-    ensures { IfOk result (λ b. b ≡ spec.string_value (first (drop at tokens.now.tokens)).text) }
+    ensures { IfOk result (λ b. b ≡ literal.string_value (first (drop at tokens.now.tokens)).text) }
 {
     string_value(alloc, tokens.text(at))
 }

@@ -8,7 +8,7 @@ ghost use Rattle.eif_grammar.specs.ExpressionRules.{operand_start, braced, attac
 ghost use Rattle.eif_grammar.specs.Outcomes.{Runs};
 ghost use Rattle.eif_grammar.specs.Spelling.{head};
 ghost use Rattle.eif_grammar.specs.declared.terminal.Terminal.TheVariants as t;
-ghost use Rattle.eif_parse_expr.specs.Reads.{Reads};
+ghost use Rattle.eif_parse_expr.specs.Readings.{Reads};
 ghost use Rattle.eif_parse_expr.specs.Subrules as rule;
 
 use crate::look::{after, behind, expect, is_at, name_behind, place_at};

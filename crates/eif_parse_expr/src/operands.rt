@@ -6,7 +6,7 @@ ghost use Rattle.eif_tree.specs.View.{expr_view};
 ghost use Rattle.eif_grammar.specs.Goals as goal;
 ghost use Rattle.eif_grammar.specs.Outcomes.{Calls};
 ghost use Rattle.eif_grammar.specs.Spelling.{head};
-ghost use Rattle.eif_parse_expr.specs.Reads.{Reads};
+ghost use Rattle.eif_parse_expr.specs.Readings.{Reads};
 ghost use Rattle.eif_parse_expr.specs.Subrules as rule;
 
 use crate::chains::chain;

@@ -1,12 +1,12 @@
 //! Operators, and how tightly they bind.
 
-ghost use Rattle.std.specs.Prelude.{◌≡◌, Some, drop};
+ghost use Rattle.std.specs.Prelude.{◌≡◌, ◌≤◌, Some, drop};
 ghost use Rattle.std.specs.Option.{option_map};
-ghost use Rattle.eif_grammar.specs.ExpressionRules as goal;
-ghost use Rattle.eif_grammar.specs.Forms as spec;
+ghost use Rattle.eif_grammar.specs.ExpressionRules as expression;
+ghost use Rattle.eif_grammar.specs.Forms as form;
 ghost use Rattle.eif_grammar.specs.Outcomes.{Runs, got};
 ghost use Rattle.eif_grammar.specs.Spelling.{head};
-ghost use Rattle.eif_parse_expr.specs.Reads.{Leaves};
+ghost use Rattle.eif_parse_expr.specs.Readings.{Leaves};
 ghost use Rattle.eif_parse_expr.specs.Subrules as rule;
 
 use crate::look::{after, behind, place_at};
@@ -31,7 +31,7 @@ struct SecondToken {
 }
 
 fn operator(terminal: Terminal) -> Option<Op>
-    ensures { result ≡ spec.operator terminal }
+    ensures { result ≡ form.operator terminal }
 {
     match terminal {
         Terminal::Implies => Some(Op::Implies),
@@ -56,7 +56,7 @@ fn operator(terminal: Terminal) -> Option<Op>
 
 /// A sign or `not`, before its operand.
 pub fn prefix_operator(terminal: Terminal) -> Option<Op>
-    ensures { result ≡ spec.prefix_operator terminal }
+    ensures { result ≡ form.prefix_operator terminal }
 {
     match terminal {
         Terminal::Not => Some(Op::Not),
@@ -68,7 +68,8 @@ pub fn prefix_operator(terminal: Terminal) -> Option<Op>
 
 /// How tightly an operator binds: 1 is least.
 fn level(op: Op) -> u32
-    ensures { result ≡ spec.level op }
+    ensures value { result ≡ form.level op }
+    ensures most { result ≤ 7 }
 {
     match op {
         Op::Implies => 1,
@@ -84,21 +85,16 @@ fn level(op: Op) -> u32
 
 /// The least level of the operators in the right operand. `^` alone associates to the right.
 pub fn right_level(op: Op) -> u32
-    ensures { result ≡ spec.right_level op }
+    ensures { result ≡ form.right_level op }
 {
     match op {
-        Op::Implies => 2,
-        Op::Or | Op::OrElse | Op::Xor => 3,
-        Op::And | Op::AndThen => 4,
-        Op::Equal | Op::NotEqual | Op::Less | Op::Greater | Op::LessEqual | Op::GreaterEqual => 5,
-        Op::Plus | Op::Minus => 6,
-        Op::Times | Op::Divide | Op::Modulo | Op::Power => 7,
-        Op::Not => 0,
+        Op::Power => level(op),
+        _ => level(op) + 1,
     }
 }
 
 fn second_token(op: Op) -> Option<SecondToken>
-    ensures { option_map (λ s. (s.terminal, s.op)) result ≡ goal.second_token op }
+    ensures { option_map (λ s. (s.terminal, s.op)) result ≡ expression.second_token op }
 {
     match op {
         Op::And => Some(SecondToken {
@@ -115,7 +111,7 @@ fn second_token(op: Op) -> Option<SecondToken>
 
 /// The operator that token `at` is or begins, if its level is no lower.
 pub fn operator_at(tokens: &Tokens<'_>, at: u32, least: u32) -> Option<Op>
-    ensures { result ≡ rule.of_level least (spec.operator (head (drop at tokens.now.tokens))) }
+    ensures { result ≡ rule.of_level least (form.operator (head (drop at tokens.now.tokens))) }
 {
     match operator(tokens.next_terminal(at)) {
         Some(op) if least <= level(op) => Some(op),
@@ -125,7 +121,7 @@ pub fn operator_at(tokens: &Tokens<'_>, at: u32, least: u32) -> Option<Op>
 
 /// The whole operator that token `at` is or begins.
 pub fn sign_at(tokens: &Tokens<'_>, at: u32, first: Op) -> Parsed<Sign>
-    requires { spec.operator (head (drop at tokens.now.tokens)) ≡ Some first }
+    requires { form.operator (head (drop at tokens.now.tokens)) ≡ Some first }
     ensures { Leaves (Runs (rule.sign first) (drop at tokens.now.tokens)) tokens.now.tokens at result.next (got result.tree) }
 {
     let place = place_at(tokens, at);

@@ -2,7 +2,7 @@
 
 ghost use Rattle.std.specs.Prelude.{◌≤◌, length};
 ghost use Rattle.eif_grammar.specs.Parts.{most_height};
-ghost use Rattle.eif_parse_expr.specs.Parts.{ReadsType, ReadsExpression, ReadsCompound};
+ghost use Rattle.eif_parse_expr.specs.ReadParts.{ReadsType, ReadsExpression, ReadsCompound};
 
 use crate::compounds::compound;
 use crate::expressions::expression;

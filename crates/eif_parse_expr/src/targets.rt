@@ -5,11 +5,11 @@ ghost use Rattle.std.specs.Option.{option_map};
 ghost use Rattle.eif_tree.specs.Height as tall;
 ghost use Rattle.eif_tree.specs.View.{instr_view, type_view};
 ghost use Rattle.eif_grammar.specs.Goals as goal;
-ghost use Rattle.eif_grammar.specs.InstructionRules as rule;
+ghost use Rattle.eif_grammar.specs.InstructionRules as instruction;
 ghost use Rattle.eif_grammar.specs.Outcomes.{Calls, Runs};
 ghost use Rattle.eif_grammar.specs.Spelling.{head};
 ghost use Rattle.eif_grammar.specs.declared.terminal.Terminal.TheVariants as t;
-ghost use Rattle.eif_parse_expr.specs.Reads.{Reads};
+ghost use Rattle.eif_parse_expr.specs.Readings.{Reads};
 
 use crate::chains::creator;
 use crate::expressions::expression;
@@ -58,7 +58,7 @@ pub fn assigned(
 ) -> Result<Parsed<Instr>, PartError>
     requires sign { head (drop from tokens.now.tokens) ≡ t.Assign }
     requires some { 1 < room }
-    ensures reads { Reads (Runs (rule.assigned room target) (drop from tokens.now.tokens)) instr_view tokens.now.tokens from result }
+    ensures reads { Reads (Runs (instruction.assigned room target) (drop from tokens.now.tokens)) instr_view tokens.now.tokens from result }
     ensures height { IfOk result (λ x. x.height ≡ tall.instr_height (instr_view x.tree)) }
     ensures low { IfOk result (λ x. x.height ≤ room) }
 {
@@ -116,7 +116,7 @@ fn created(
     requires start { made.next ≤ length tokens.now.tokens }
     requires height { made.height ≡ tall.written_height (option_map type_view made.tree) }
     requires low { made.height < room }
-    ensures reads { Reads (Runs (rule.created room place (option_map type_view made.tree)) (drop made.next tokens.now.tokens)) instr_view tokens.now.tokens made.next result }
+    ensures reads { Reads (Runs (instruction.created room place (option_map type_view made.tree)) (drop made.next tokens.now.tokens)) instr_view tokens.now.tokens made.next result }
     ensures height { IfOk result (λ x. x.height ≡ tall.instr_height (instr_view x.tree)) }
     ensures low { IfOk result (λ x. x.height ≤ room) }
 {

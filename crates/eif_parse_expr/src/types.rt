@@ -6,7 +6,7 @@ ghost use Rattle.eif_tree.specs.declared.Mark.TheVariants.{Plain};
 ghost use Rattle.eif_tree.specs.View.{type_view};
 ghost use Rattle.eif_grammar.specs.Goals as goal;
 ghost use Rattle.eif_grammar.specs.Outcomes.{Calls, Runs};
-ghost use Rattle.eif_parse_expr.specs.Reads.{Reads, types_view};
+ghost use Rattle.eif_parse_expr.specs.Readings.{Reads, types_view};
 ghost use Rattle.eif_parse_expr.specs.Subrules as rule;
 
 use crate::look::{after, behind, expect, name_behind, place_at};

@@ -1,4 +1,3 @@
-pub mod Lines
 pub mod OneReport
 pub mod Sorting
 pub mod Total

@@ -6,12 +6,12 @@ use Rattle.std.specs.Ordering.{nat_cmp, ordering_then}
 use Rattle.std.specs.Cmp.Lexicographic.{slice_cmp}
 use Rattle.eif_base.specs.declared.Fault.{Fault}
 use Rattle.eif_base.specs.declared.Place.{Place}
-use Rattle.eif_base.specs.Files.{no_file}
+use Rattle.eif_base.specs.declared.place.TheConstants.{NO_FILE}
 use Rattle.eif_base.specs.Codes.{code_text}
 
 -- the name of the file with that number, if it is one
 abbrev pub file_name : List (List ℕ) → ℕ → Option (List ℕ)
-file_name names file = if file == no_file then None else slice_get names file
+file_name names file = if file == NO_FILE then None else slice_get names file
 
 -- no file comes before every file
 abbrev pub file_cmp : Option (List ℕ) → Option (List ℕ) → Ordering

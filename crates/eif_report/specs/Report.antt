@@ -2,7 +2,7 @@
 use Rattle.std.specs.Prelude.{◌≡◌, ℕ, ◌==◌, if◌then◌else◌, List, [], ◌∷◌, ◌++◌, length, slice_get, unwrap_or, codes, decimal}
 use Rattle.eif_base.specs.declared.Fault.{Fault}
 use Rattle.eif_base.specs.declared.Place.{Place}
-use Rattle.eif_base.specs.Files.{no_file}
+use Rattle.eif_base.specs.declared.place.TheConstants.{NO_FILE}
 use Rattle.eif_base.specs.Codes.{code_text}
 use Rattle.eif_report.specs.declared.verdict.Verdict.{Verdict}
 use Rattle.eif_report.specs.declared.verdict.Verdict.TheVariants as v
@@ -24,7 +24,7 @@ name_or_dash (b ∷ bs) = b ∷ bs
 
 abbrev pub place_text : List (List ℕ) → Place → List ℕ
 place_text names p =
-    if p.file == no_file then codes "-:0:0"
+    if p.file == NO_FILE then codes "-:0:0"
     else unwrap_or (slice_get names p.file) [] ++ colon ++ decimal p.line ++ colon ++ decimal p.column
 
 -- `CODE CLASS FEATURE FILE:LINE:COLUMN ABOUT` and a line feed

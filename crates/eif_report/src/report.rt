@@ -41,8 +41,8 @@ fn lines_text(alloc: Global, files: &FileList, list: &FaultList) -> Result<Vec<u
     ensures { IfOk result (λ v. v.items ≡ fault_lines (names_of files.now) list.now) }
 {
     let mut text = Vec::new(alloc);
-    'lines: for i in 0..list.count() {
-        push_line(alloc, &mut text, files, list.at(i))?;
+    'lines: for fault in list.iter() {
+        push_line(alloc, &mut text, files, fault)?;
     }
     Ok(text)
 }

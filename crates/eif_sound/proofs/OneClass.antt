@@ -7,7 +7,7 @@ use Rattle.std.specs.Str.{bytes_eq}
 use Rattle.eif_base.specs.declared.Fault.{Fault}
 use Rattle.eif_tree.specs.declared.NameAt.{NameAt}
 use Rattle.eif_tree.specs.Tree.{unqualified, no_exs, Ins, call, Inss, no_inss, and_ins, GroupT, KindT, routine, DeclT, ClassT}
-use Rattle.eif_tree.specs.Parts.{has_name, declarations, declared_names, body_of, called_by, called_in}
+use Rattle.eif_tree.specs.Members.{has_name, declarations, declared_names, body_of, called_by, called_in}
 use Rattle.eif_check.specs.Plain.{is_plain_call, has_plain_calls, is_plain_routine, is_plain_declaration}
 use Rattle.eif_check.specs.Faults.{unknown_in, unknown_of}
 use Rattle.eif_meaning.specs.System.{Origin, class_named, declaration_named, origin_of, bind_of, system_of}

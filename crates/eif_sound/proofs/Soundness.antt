@@ -5,8 +5,8 @@ use Rattle.std.specs.List.{list_all}
 use Rattle.std.specs.Option.{option_map_or}
 use Rattle.eif_base.specs.declared.Fault.{Fault}
 use Rattle.eif_tree.specs.Tree.{DeclT, ClassT}
-use Rattle.eif_tree.specs.Parts.{has_name, declarations, declared_names, creator_names}
-use Rattle.eif_check.specs.declared.Root.{Root}
+use Rattle.eif_tree.specs.Members.{has_name, declarations, declared_names, creator_names}
+use Rattle.eif_base.specs.declared.Root.{Root}
 use Rattle.eif_check.specs.Plain.{is_plain, has_plain_form, is_plain_declaration, are_distinct}
 use Rattle.eif_check.specs.Faults.{root_class_faults, root_procedure_faults, unknown_name_faults, first_broken, class_faults}
 use Rattle.eif_meaning.specs.Values.{Store, Outcome, done, stopped, cut_off, wrong, no_feature}

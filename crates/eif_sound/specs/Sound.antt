@@ -1,7 +1,7 @@
 -- No run of a class without faults goes wrong.
 use Rattle.std.specs.Prelude.{◌≡◌, ℕ, true, [], ◌∷◌}
 use Rattle.eif_tree.specs.Tree.{ClassT}
-use Rattle.eif_check.specs.declared.Root.{Root}
+use Rattle.eif_base.specs.declared.Root.{Root}
 use Rattle.eif_check.specs.Plain.{is_plain}
 use Rattle.eif_check.specs.Faults.{class_faults}
 use Rattle.eif_meaning.specs.System.{system_of}

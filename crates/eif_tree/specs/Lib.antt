@@ -1,5 +1,5 @@
+pub mod ExpressionPlaces
 pub mod Height
-pub mod Parts
-pub mod Places
+pub mod Members
 pub mod Tree
 pub mod View

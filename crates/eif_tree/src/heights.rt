@@ -1,6 +1,6 @@
 ghost use Rattle.std.specs.Prelude.{◌≡◌, ◌<◌, ◌^◌, map};
 ghost use Rattle.std.specs.Option.{option_map};
-ghost use Rattle.eif_tree.specs.Height as spec;
+ghost use Rattle.eif_tree.specs.Height as tall;
 ghost use Rattle.eif_tree.specs.View.{assertion_view, branch_view, branches_from, expr_view, exs_from, instr_view, inss_from, type_view, types_from};
 
 use crate::tree::{Assertion, Branch, Expr, ExprKind, Instr, TypeTree};
@@ -8,16 +8,16 @@ use crate::tree::{Assertion, Branch, Expr, ExprKind, Instr, TypeTree};
 /// How high a type is: 1 with no actuals.
 #[cycle(types)]
 pub fn type_height(type_tree: &TypeTree) -> u32
-    requires { spec.type_height (type_view type_tree.now) < 2 ^ 32 }
-    ensures { result ≡ spec.type_height (type_view type_tree.now) }
+    requires { tall.type_height (type_view type_tree.now) < 2 ^ 32 }
+    ensures { result ≡ tall.type_height (type_view type_tree.now) }
 {
     types_height(&type_tree.actuals) + 1
 }
 
 #[cycle(types)]
 fn types_height(types: &[TypeTree]) -> u32
-    requires { spec.types_height (types_from (map type_view types.now)) < 2 ^ 32 }
-    ensures { result ≡ spec.types_height (types_from (map type_view types.now)) }
+    requires { tall.types_height (types_from (map type_view types.now)) < 2 ^ 32 }
+    ensures { result ≡ tall.types_height (types_from (map type_view types.now)) }
 {
     let mut most = 0;
     for type_tree in types {
@@ -30,8 +30,8 @@ fn types_height(types: &[TypeTree]) -> u32
 }
 
 fn written_height(type_tree: &Option<TypeTree>) -> u32
-    requires { spec.written_height (option_map type_view type_tree.now) < 2 ^ 32 }
-    ensures { result ≡ spec.written_height (option_map type_view type_tree.now) }
+    requires { tall.written_height (option_map type_view type_tree.now) < 2 ^ 32 }
+    ensures { result ≡ tall.written_height (option_map type_view type_tree.now) }
 {
     match type_tree {
         Some(written) => type_height(written),
@@ -42,8 +42,8 @@ fn written_height(type_tree: &Option<TypeTree>) -> u32
 /// How high an expression is: 1 with no parts.
 #[cycle(exprs)]
 pub fn height(expr: &Expr) -> u32
-    requires { spec.height (expr_view expr.now) < 2 ^ 32 }
-    ensures { result ≡ spec.height (expr_view expr.now) }
+    requires { tall.height (expr_view expr.now) < 2 ^ 32 }
+    ensures { result ≡ tall.height (expr_view expr.now) }
 {
     match &expr.kind {
         ExprKind::Lit(_) | ExprKind::VoidValue | ExprKind::CurrentValue | ExprKind::ResultValue =>
@@ -69,8 +69,8 @@ pub fn height(expr: &Expr) -> u32
 
 #[cycle(exprs)]
 fn heights(exprs: &[Expr]) -> u32
-    requires { spec.heights (exs_from (map expr_view exprs.now)) < 2 ^ 32 }
-    ensures { result ≡ spec.heights (exs_from (map expr_view exprs.now)) }
+    requires { tall.heights (exs_from (map expr_view exprs.now)) < 2 ^ 32 }
+    ensures { result ≡ tall.heights (exs_from (map expr_view exprs.now)) }
 {
     let mut most = 0;
     for expr in exprs {
@@ -83,8 +83,8 @@ fn heights(exprs: &[Expr]) -> u32
 }
 
 fn claims_height(claims: &[Assertion]) -> u32
-    requires { spec.heights (exs_from (map assertion_view claims.now)) < 2 ^ 32 }
-    ensures { result ≡ spec.heights (exs_from (map assertion_view claims.now)) }
+    requires { tall.heights (exs_from (map assertion_view claims.now)) < 2 ^ 32 }
+    ensures { result ≡ tall.heights (exs_from (map assertion_view claims.now)) }
 {
     let mut most = 0;
     for claim in claims {
@@ -97,8 +97,8 @@ fn claims_height(claims: &[Assertion]) -> u32
 }
 
 fn maybe_height(expr: &Option<Expr>) -> u32
-    requires { spec.maybe_height (option_map expr_view expr.now) < 2 ^ 32 }
-    ensures { result ≡ spec.maybe_height (option_map expr_view expr.now) }
+    requires { tall.maybe_height (option_map expr_view expr.now) < 2 ^ 32 }
+    ensures { result ≡ tall.maybe_height (option_map expr_view expr.now) }
 {
     match expr {
         Some(written) => height(written),
@@ -109,8 +109,8 @@ fn maybe_height(expr: &Option<Expr>) -> u32
 /// How high an instruction is.
 #[cycle(instrs)]
 pub fn instr_height(instr: &Instr) -> u32
-    requires { spec.instr_height (instr_view instr.now) < 2 ^ 32 }
-    ensures { result ≡ spec.instr_height (instr_view instr.now) }
+    requires { tall.instr_height (instr_view instr.now) < 2 ^ 32 }
+    ensures { result ≡ tall.instr_height (instr_view instr.now) }
 {
     match instr {
         Instr::Assign { value, .. } => height(value) + 1,
@@ -146,8 +146,8 @@ pub fn instr_height(instr: &Instr) -> u32
 /// How high the highest of these instructions is, and 0 where there are none.
 #[cycle(instrs)]
 pub fn compound_height(compound: &[Instr]) -> u32
-    requires { spec.compound_height (inss_from (map instr_view compound.now)) < 2 ^ 32 }
-    ensures { result ≡ spec.compound_height (inss_from (map instr_view compound.now)) }
+    requires { tall.compound_height (inss_from (map instr_view compound.now)) < 2 ^ 32 }
+    ensures { result ≡ tall.compound_height (inss_from (map instr_view compound.now)) }
 {
     let mut most = 0;
     for instr in compound {
@@ -161,8 +161,8 @@ pub fn compound_height(compound: &[Instr]) -> u32
 
 #[cycle(instrs)]
 fn branches_height(branches: &[Branch]) -> u32
-    requires { spec.branches_height (branches_from (map branch_view branches.now)) < 2 ^ 32 }
-    ensures { result ≡ spec.branches_height (branches_from (map branch_view branches.now)) }
+    requires { tall.branches_height (branches_from (map branch_view branches.now)) < 2 ^ 32 }
+    ensures { result ≡ tall.branches_height (branches_from (map branch_view branches.now)) }
 {
     let mut most = 0;
     for branch in branches {

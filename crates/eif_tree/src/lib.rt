@@ -4,7 +4,6 @@
 pub mod builders;
 mod class;
 pub mod class_builders;
-mod copies;
 mod cross;
 mod heights;
 mod places;
@@ -14,10 +13,9 @@ pub use class::{
     ClassTree, Clients, CreatorPart, ExportItem, FeatureClause, FeatureDecl, FeatureKind,
     FormalTree, Group, ParentClause,
 };
-pub use copies::copy_type;
 pub use cross::trees_cross;
 pub use heights::{compound_height, height, instr_height, type_height};
-pub use places::{place_of, type_place};
+pub use places::place_of;
 pub use tree::{
     Assertion, Branch, Expr, ExprKind, Instr, Literal, Mark, NameAt, Op, RenamePair, TypeTree,
 };

@@ -1,20 +1,13 @@
 ghost use Rattle.std.specs.Prelude.{◌≡◌};
-ghost use Rattle.eif_tree.specs.Places as spec;
-ghost use Rattle.eif_tree.specs.View.{expr_view, type_view};
+ghost use Rattle.eif_tree.specs.ExpressionPlaces as places;
+ghost use Rattle.eif_tree.specs.View.{expr_view};
 
-use crate::tree::{Expr, TypeTree};
+use crate::tree::Expr;
 use eif_base::Place;
 
 /// Where an expression begins.
 pub fn place_of(expr: &Expr) -> Place
-    ensures { result ≡ spec.place_of (expr_view expr.now) }
+    ensures { result ≡ places.place_of (expr_view expr.now) }
 {
     expr.place
-}
-
-/// Where a type begins.
-pub fn type_place(type_tree: &TypeTree) -> Place
-    ensures { result ≡ spec.type_place (type_view type_tree.now) }
-{
-    type_tree.place
 }

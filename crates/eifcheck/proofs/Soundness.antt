@@ -3,7 +3,7 @@ use Rattle.std.proofs.Common.{◌≡◌, ℕ, Bool, true, false, cond, List, [],
 use Rattle.eif_tree.specs.Tree.{ClassT}
 use Rattle.eif_grammar.specs.Tokens.{Token, TokenList, tokens_of, end_of}
 use Rattle.eif_grammar.specs.LeftOut.{left_out}
-use Rattle.eif_check.specs.declared.Root.{Root}
+use Rattle.eif_base.specs.declared.Root.{Root}
 use Rattle.eif_check.specs.Plain.{is_plain}
 use Rattle.eif_check.specs.Faults.{yet_fault, class_faults, FaultsOf, LexedFaults, TokenFaults, GrammarFaults}
 use Rattle.eif_sound.proofs.Soundness.{sound}

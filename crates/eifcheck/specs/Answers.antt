@@ -7,8 +7,8 @@ use Rattle.eif_base.specs.Reads.{Read, AddsRead}
 use Rattle.eif_base.specs.Writes.{Writes, WritesFront}
 use Rattle.eif_report.specs.Order.{In}
 use Rattle.eif_report.specs.Report.{yes_text, IsReport}
-use Rattle.eif_check.specs.declared.Root.{Root}
-use Rattle.eif_check.specs.Limits.{most_bytes}
+use Rattle.eif_base.specs.declared.Root.{Root}
+use Rattle.eif_base.specs.declared.limits.TheConstants.{MOST_BYTES}
 use Rattle.eif_check.specs.Faults.{FaultsOf}
 use Rattle.eifcheck.specs.declared.status.Status.{Status}
 use Rattle.eifcheck.specs.declared.status.Status.TheVariants as s
@@ -32,7 +32,7 @@ IsOutput file (f ∷ fs) bytes = IsReport (file ∷ []) (In (f ∷ fs)) bytes
 pub record IsJudged (held : Option (List ℕ)) (root : Root) (faults : List Fault) : Type 0 where
   pub text : List ℕ
   pub is_held : IfSome held (λ h. text ≡ h)
-  pub short : length text ≤ most_bytes
+  pub short : length text ≤ MOST_BYTES
   pub are_faults : FaultsOf 0 text root faults
 
 -- the text was judged, and its report is these bytes
@@ -52,7 +52,7 @@ ChecksSo c held old new s.ReadFault = new ≡ old
 ChecksSo c held old new s.WriteFault = (faults : List Fault) × (bytes : List ℕ) × Reports held c faults bytes × WritesFront old new bytes
 ChecksSo c held old new s.Memory = new ≡ old
 -- the file holds more bytes than a class text may have
-ChecksSo c held old new s.TooLarge = IfSome held (λ h. most_bytes < length h) × (new ≡ old)
+ChecksSo c held old new s.TooLarge = IfSome held (λ h. MOST_BYTES < length h) × (new ≡ old)
 
 -- The same of all words: the answer is Usage exactly where they aren't of the form, unless memory runs out first.
 abbrev pub Answers : Option Command → (List ℕ → Option (List ℕ)) → Option (List ℕ) → Option (List ℕ) → Status → Type 0
@@ -93,7 +93,7 @@ IsAnswer _ = ⊥
 -- a file within its limit, where that is told
 abbrev pub IsWithin : Option (List ℕ) → Type 0
 IsWithin None = ⊥
-IsWithin (Some h) = length h ≤ most_bytes
+IsWithin (Some h) = length h ≤ MOST_BYTES
 
 -- Completeness: where the words are of the form, no count rose and the file is within its limit, the check has an answer.
 abbrev pub IsComplete : Option Command → (List ℕ → Option (List ℕ)) → ℕ → ℕ → ℕ → ℕ → Status → Type 0

@@ -4,7 +4,7 @@ use Rattle.std.specs.Option.{option_map}
 use Rattle.std.specs.Str.{bytes_eq, str_to_ascii_lowercase}
 use Rattle.eif_grammar.specs.Lexemes.{begins}
 use Rattle.eif_grammar.specs.Identifiers.{is_identifier}
-use Rattle.eif_check.specs.declared.Root.{Root}
+use Rattle.eif_base.specs.declared.Root.{Root}
 
 -- what a command asks for: the check of that file with that root
 pub record Command : Type 0 where

@@ -3,7 +3,7 @@ use Rattle.std.specs.Prelude.{◌≡◌, ℕ, List, [], ◌∷◌, Option, Some,
 use Rattle.eif_tree.specs.Tree.{ClassT}
 use Rattle.eif_grammar.specs.Tokens.{Token, tokens_of}
 use Rattle.eif_grammar.specs.Parts.{OnlyText}
-use Rattle.eif_check.specs.declared.Root.{Root}
+use Rattle.eif_base.specs.declared.Root.{Root}
 use Rattle.eif_meaning.specs.System.{system_of}
 use Rattle.eif_meaning.specs.Run.{run, IsWrong}
 use Rattle.eifcheck.specs.declared.status.Status.{Status}

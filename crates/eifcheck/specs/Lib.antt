@@ -2,4 +2,4 @@ pub mod Answers
 pub mod Form
 pub mod Headline
 pub mod Judgement
-pub mod Words
+pub mod ReadWords

@@ -1,21 +1,18 @@
 ghost use Rattle.std.specs.Prelude.{◌≡◌, ◌≤◌, map, length, string_bytes, Some, IfOk};
-ghost use Rattle.eif_check.specs.Limits.{most_bytes};
 ghost use Rattle.eifcheck.specs.Answers.{Answers, ChecksSo, ReadsSo, ReadsFor, CountsReads, CountsWrites, IsComplete};
 ghost use Rattle.eifcheck.specs.Form.{form};
 ghost use Rattle.eifcheck.specs.Headline.{IsSound};
 ghost use Rattle.eifcheck.specs.Judgement.{IsReportOf, Ends, EndsJudged, is_yes};
-ghost use Rattle.eifcheck.specs.Words.{command_of};
+ghost use Rattle.eifcheck.specs.ReadWords.{command_of};
 
 use crate::status::Status;
 use crate::words::{Refusal, Words, read_words};
+use eif_base::limits::MOST_BYTES;
 use eif_base::{FileList, Gate, Memory, ReadEnd, ReadFail, Sink, Texts};
 use eif_check::check_system;
 use eif_report::{Verdict, report_text};
 use std::alloc::Global;
 use std::thread::Threads;
-
-/// How many bytes a class text may have.
-const MOST_BYTES: u64 = 1_048_576;
 
 /// A report, and whether it says yes.
 #[derive(Drop)]
@@ -38,7 +35,7 @@ fn report_on<R: Threads + Sync, G: Gate + Sync>(
     text: Vec<u8>,
     gate: &G,
 ) -> Result<Report, Memory>
-    requires { length text.items ≤ most_bytes }
+    requires { length text.items ≤ MOST_BYTES }
     ensures { IfOk result (IsReportOf (command_of words.now) text.items) }
 {
     let mut files = FileList::new(alloc);
@@ -70,7 +67,7 @@ fn judge<R: Threads + Sync, S: Sink, G: Gate + Sync>(
     sink: &mut S,
     gate: &G,
 ) -> Status
-    requires { length text.items ≤ most_bytes }
+    requires { length text.items ≤ MOST_BYTES }
     ensures answer { ChecksSo (command_of words.now) (Some text.items) (S.written sink.old) (S.written sink.new) result }
     ensures ends { EndsJudged result }
     ensures faults { CountsWrites (S.faults sink.old) (S.faults sink.new) result }
@@ -122,7 +119,8 @@ pub fn eifcheck<R: Threads + Sync, T: Texts, S: Sink, G: Gate + Sync>(
     ensures reads { ReadsFor (form (map string_bytes words.now)) (T.reads texts.old) (T.reads texts.new) result }
     ensures kept { T.holds texts.new ≡ T.holds texts.old }
 
-    // A fault of reading or writing comes exactly where the count of its object rose in this call.
+    // A fault of reading or writing comes only where the count of its object rose or stands at its
+    // last value, and wherever that count is greater than at entry.
     ensures read_faults { CountsReads (T.faults texts.old) (T.faults texts.new) result }
     ensures write_faults { CountsWrites (S.faults sink.old) (S.faults sink.new) result }
 

@@ -3,7 +3,7 @@ use crate::status::Status;
 use eif_base::{FileTexts, OpenGate, OutSink};
 use std::alloc::Global;
 use std::env;
-use std::io::ErrorKind;
+use std::io::{self, ErrorKind};
 use std::process::ExitCode;
 use std::rt::{Env, Files};
 use std::thread::Threads;
@@ -35,7 +35,7 @@ fn run<R: Threads + Sync + Files + Print + Env + AllocGlobal>(rt: &R) -> Status 
         return Status::Memory;
     };
     let mut texts = FileTexts::new(rt, alloc);
-    let mut sink = OutSink::new(rt);
+    let mut sink = OutSink::new(io::writer(rt));
     eifcheck(rt, alloc, &words, &mut texts, &mut sink, &OpenGate)
 }
 

@@ -1,6 +1,6 @@
 use eif_base::{Memory, Name, Place};
 use eif_tree::builders::{binary, paren, qualified, test, unary, unqualified, written_type};
-use eif_tree::{Expr, ExprKind, Mark, NameAt, Op, TypeTree, copy_type};
+use eif_tree::{Expr, ExprKind, Mark, NameAt, Op, TypeTree};
 use std::alloc::Global;
 use std::test::Fail;
 
@@ -56,11 +56,10 @@ fn test_tree(alloc: Global) -> Result<Expr, Memory> {
     )?;
     let value = paren(alloc, at(25), value)?;
     let written = list_type(alloc)?;
-    let copy = copy_type(alloc, &written)?;
     test(
         alloc,
         at(1),
-        Some(copy),
+        Some(written),
         Some(name_at(alloc, 2, b"x")?),
         value,
     )

@@ -2,10 +2,9 @@
 
 ghost use Rattle.std.specs.Prelude.{◌≡◌, ◌+◌, ◌<◌, [], map, take, drop, length, string_bytes, Some, None, MatchOption, IfSome};
 ghost use Rattle.eifcheck.specs.Form as form;
-ghost use Rattle.eifcheck.specs.Words.{Gives, command_of};
+ghost use Rattle.eifcheck.specs.ReadWords.{Gives, command_of};
 
-use eif_base::Name;
-use eif_check::Root;
+use eif_base::{Name, Root};
 use eif_lex::is_identifier;
 use std::alloc::{AllocError, Global};
 

@@ -3,7 +3,7 @@ use Rattle.std.proofs.lemmas.Grind.{common_steps}
 use Rattle.std.specs.Option.{option_map}
 use Rattle.eif_tree.specs.Tree.{no_branches, and_branch, no_inss}
 use Rattle.eif_tree.specs.View.{expr_view, instr_view, branch_view}
-use Rattle.eif_grammar.specs.declared.terminal.Terminal.TheVariants as v
+use Rattle.eif_grammar.specs.declared.terminal.Terminal.TheVariants as t
 use Rattle.eif_grammar.specs.Forms as form
 use Rattle.eif_grammar.specs.Spelling.{head}
 use Rattle.eif_grammar.specs.Goals.{expression, compound, instruction, otherwise, invariants, variant, expression_goal, instruction_goal}
@@ -23,20 +23,20 @@ use Rattle.eif_parse_expr.proofs.+instructions.Goals as goal
 -- ---- branch
 
 pub branches::branch-returns-in_err-start-clause-reads : goal.branches::branch-returns-in_err-start-clause-reads
-branches::branch-returns-in_err-start-clause-reads t c =
+branches::branch-returns-in_err-start-clause-reads measure c =
     let a = c.args in let all = a.tokens.now.tokens in let condition = c.in_ok-condition.condition in let r = c.in_ok-condition.ensures.reads in
-    relay_token (Runs (branch a.room) (drop a.from all)) branch_view v.Then all condition.next a.from _ _
+    relay_token (Runs (branch a.room) (drop a.from all)) branch_view t.Then all condition.next a.from _ _
     c.from_residual-in_err-start.ensures.1 c.in_err-start.ensures r.forward r.within (λ other. called r.outcome (other_here other))
 
 pub branches::branch-returns-in_err-body-clause-reads : goal.branches::branch-returns-in_err-body-clause-reads
-branches::branch-returns-in_err-body-clause-reads t c =
+branches::branch-returns-in_err-body-clause-reads measure c =
     let a = c.args in let all = a.tokens.now.tokens in let r = c.in_ok-condition.ensures.reads in let start = c.in_ok-start.start in let word = c.in_ok-start.ensures in
     relay (Calls (instruction_goal (compound a.room)) (drop start all)) (Runs (branch a.room) (drop a.from all)) inss_view branch_view all start a.from _ _
     c.from_residual-in_err-body.ensures.1 c.in_err-body.ensures.reads (omega (arith, r.forward, word.behind))
     (λ rest d. called r.outcome (expect_here word (call_refused d)))
 
 pub branches::branch-returns-clause-reads : goal.branches::branch-returns-clause-reads
-branches::branch-returns-clause-reads t c =
+branches::branch-returns-clause-reads measure c =
     let a = c.args in let all = a.tokens.now.tokens in let r = c.in_ok-condition.ensures.reads in let word = c.in_ok-start.ensures in
     let body = c.in_ok-body.body in let d = c.in_ok-body.ensures.reads in
     let whole : Runs (branch a.room) (drop a.from all) (got (branch_view c.written_branch.result) (drop body.next all)) =
@@ -46,14 +46,14 @@ branches::branch-returns-clause-reads t c =
 -- ---- branch_list
 
 pub branches::branch_list-returns-in_err-one-clause-reads : goal.branches::branch_list-returns-in_err-one-clause-reads
-branches::branch_list-returns-in_err-one-clause-reads t c =
+branches::branch_list-returns-in_err-one-clause-reads measure c =
     let a = c.args in let all = a.tokens.now.tokens in let i = c.branches.invariant in
     relay (Runs (branch a.room) (drop c.branches.next all)) (Runs (branch_list a.room) (drop a.from all)) branch_view branches_view all c.branches.next a.from _ _
     c.from_residual.ensures.1 c.in_err-one.ensures.reads i.forward
     (λ rest r. rw (branches_behind-refused (map branch_view c.branches.tree.items) rest) at (i.goes_on (refused rest) (branch_list_refused r)))
 
 pub branches::branch_list-returns-in_default-clause-reads : goal.branches::branch_list-returns-in_default-clause-reads
-branches::branch_list-returns-in_default-clause-reads t c =
+branches::branch_list-returns-in_default-clause-reads measure c =
     let a = c.args in let all = a.tokens.now.tokens in let one = c.in_ok-one.one in let r = c.in_ok-one.ensures.reads in let i = c.branches.invariant in
     let before = map branch_view c.branches.tree.items in let b = branch_view one.tree in
     let pushed : map branch_view c.push.new.self.items ≡ before ++ b ∷ [] = grind (arith, common_steps, c.in_ok-push.ensures.items) in
@@ -63,13 +63,13 @@ branches::branch_list-returns-in_default-clause-reads t c =
     record { outcome = whole; forward = omega (arith, r.forward, i.forward); within = r.within }
 
 pub branches::branch_list-returns-in_default-clause-height : goal.branches::branch_list-returns-in_default-clause-height
-branches::branch_list-returns-in_default-clause-height t c =
+branches::branch_list-returns-in_default-clause-height measure c =
     let one = c.in_ok-one.one in let before = map branch_view c.branches.tree.items in let b = branch_view one.tree in
     let pushed : map branch_view c.push.new.self.items ≡ before ++ b ∷ [] = grind (arith, common_steps, c.in_ok-push.ensures.items) in
     rw pushed (omega (arith, branches_height-more before b, c.max-height.ensures, c.in_ok-one.ensures.height, c.branches.invariant.height))
 
 pub branches::branch_list-branches-preserved : goal.branches::branch_list-branches-preserved
-branches::branch_list-branches-preserved t c =
+branches::branch_list-branches-preserved measure c =
     let a = c.args in let all = a.tokens.now.tokens in let one = c.in_ok-one.one in let r = c.in_ok-one.ensures.reads in let i = c.branches.invariant in
     let before = map branch_view c.branches.tree.items in let b = branch_view one.tree in
     let pushed : map branch_view c.push.new.self.items ≡ before ++ b ∷ [] = grind (arith, common_steps, c.in_ok-push.ensures.items) in
@@ -85,12 +85,12 @@ branches::branch_list-branches-preserved t c =
 -- ---- conditional
 
 pub branches::conditional-returns-then-room-eq1-clause-reads : goal.branches::conditional-returns-then-room-eq1-clause-reads
-branches::conditional-returns-then-room-eq1-clause-reads t c =
+branches::conditional-returns-then-room-eq1-clause-reads measure c =
     let a = c.args in let ts = drop a.from a.tokens.now.tokens in
     record { outcome = instruction_at a.room ts (refused ts) by_if (ap instruction_start c.requires.begins) (no_room 1 a.room (omega arith)); forward = omega arith; within = c.requires.start }
 
 pub branches::conditional-returns-in_err-all-clause-reads : goal.branches::conditional-returns-in_err-all-clause-reads
-branches::conditional-returns-in_err-all-clause-reads t c =
+branches::conditional-returns-in_err-all-clause-reads measure c =
     let a = c.args in let all = a.tokens.now.tokens in let word = c.after.ensures in let start = c.after.result in
     let lower : 1 < a.room = omega (arith, c.requires.some, c.if-room-eq1.false) in
     relay (Runs (branch_list (a.room - 1)) (drop start all)) (Calls (instruction_goal (instruction a.room)) (drop a.from all)) branches_view instr_view all start a.from _ _
@@ -98,7 +98,7 @@ branches::conditional-returns-in_err-all-clause-reads t c =
     (λ rest r. conditional_whole c.requires.begins lower word (bound_refused (choose_rest a.room) (branch_list (a.room - 1)) (drop start all) rest r))
 
 pub branches::conditional-returns-in_err-last-clause-reads : goal.branches::conditional-returns-in_err-last-clause-reads
-branches::conditional-returns-in_err-last-clause-reads t c =
+branches::conditional-returns-in_err-last-clause-reads measure c =
     let a = c.args in let all = a.tokens.now.tokens in let word = c.after.ensures in let start = c.after.result in let bs = c.in_ok-all.all in let r = c.in_ok-all.ensures.reads in
     let lower : 1 < a.room = omega (arith, c.requires.some, c.if-room-eq1.false) in
     relay (Calls (instruction_goal (otherwise (a.room - 1))) (drop bs.next all)) (Calls (instruction_goal (instruction a.room)) (drop a.from all)) otherwise_view instr_view all bs.next a.from _ _
@@ -107,17 +107,17 @@ branches::conditional-returns-in_err-last-clause-reads t c =
     (bound (choose_rest a.room) (branch_list (a.room - 1)) (drop start all) (drop bs.next all) (branches_view bs.tree) (refused rest) r.outcome (call_refused d)))
 
 pub branches::conditional-returns-in_err-next-clause-reads : goal.branches::conditional-returns-in_err-next-clause-reads
-branches::conditional-returns-in_err-next-clause-reads t c =
+branches::conditional-returns-in_err-next-clause-reads measure c =
     let a = c.args in let all = a.tokens.now.tokens in let word = c.after.ensures in let start = c.after.result in let bs = c.in_ok-all.all in let r = c.in_ok-all.ensures.reads in
     let last = c.in_ok-last.last in let d = c.in_ok-last.ensures.reads in
     let lower : 1 < a.room = omega (arith, c.requires.some, c.if-room-eq1.false) in
-    relay_token (Calls (instruction_goal (instruction a.room)) (drop a.from all)) instr_view v.End all last.next a.from _ _
+    relay_token (Calls (instruction_goal (instruction a.room)) (drop a.from all)) instr_view t.End all last.next a.from _ _
     c.from_residual-in_err-next.ensures.1 c.in_err-next.ensures (omega (arith, word.behind, r.forward, d.forward)) d.within
     (λ other. conditional_whole c.requires.begins lower word
     (bound (choose_rest a.room) (branch_list (a.room - 1)) (drop start all) (drop bs.next all) (branches_view bs.tree) (refused (drop last.next all)) r.outcome (called d.outcome (other_here other))))
 
 pub branches::conditional-returns-clause-reads : goal.branches::conditional-returns-clause-reads
-branches::conditional-returns-clause-reads t c =
+branches::conditional-returns-clause-reads measure c =
     let a = c.args in let all = a.tokens.now.tokens in let word = c.after.ensures in let start = c.after.result in let bs = c.in_ok-all.all in let r = c.in_ok-all.ensures.reads in
     let d = c.in_ok-last.ensures.reads in let close = c.in_ok-next.ensures in
     let lower : 1 < a.room = omega (arith, c.requires.some, c.if-room-eq1.false) in
@@ -129,24 +129,24 @@ branches::conditional-returns-clause-reads t c =
 -- ---- otherwise
 
 pub branches::otherwise-returns-in_default-clause-reads : goal.branches::otherwise-returns-in_default-clause-reads
-branches::otherwise-returns-in_default-clause-reads t c =
+branches::otherwise-returns-in_default-clause-reads measure c =
     record { outcome = by_rule (on_other c.in_default.ensures ended); forward = omega arith; within = c.requires.start }
 
 pub branches::otherwise-returns-in_err-body-clause-reads : goal.branches::otherwise-returns-in_err-body-clause-reads
-branches::otherwise-returns-in_err-body-clause-reads t c =
+branches::otherwise-returns-in_err-body-clause-reads measure c =
     let a = c.args in let all = a.tokens.now.tokens in let word = c.in-Some.ensures in let start = c.in-Some.start in
     relay (Calls (instruction_goal (compound a.room)) (drop start all)) (Calls (instruction_goal (otherwise a.room)) (drop a.from all)) inss_view otherwise_view all start a.from _ _
     c.from_residual.ensures.1 c.in_err-body.ensures.reads (omega (arith, word.behind)) (λ rest d. by_rule (on_here word (call_refused d)))
 
 pub branches::otherwise-returns-clause-reads : goal.branches::otherwise-returns-clause-reads
-branches::otherwise-returns-clause-reads t c =
+branches::otherwise-returns-clause-reads measure c =
     let word = c.in-Some.ensures in let d = c.in_ok-body.ensures.reads in
     record { outcome = by_rule (on_here word (called d.outcome ended)); forward = omega (arith, word.behind, d.forward); within = d.within }
 
 -- ---- compound
 
 pub compounds::compound-instructions-preserved-in-Some : goal.compounds::compound-instructions-preserved-in-Some
-compounds::compound-instructions-preserved-in-Some t c =
+compounds::compound-instructions-preserved-in-Some measure c =
     let i = c.instructions.invariant in let semicolon = c.in-Some.ensures in
     record {
       within = semicolon.within;
@@ -157,7 +157,7 @@ compounds::compound-instructions-preserved-in-Some t c =
     }
 
 pub compounds::compound-returns-then-not-begins_instruction-clause-reads : goal.compounds::compound-returns-then-not-begins_instruction-clause-reads
-compounds::compound-returns-then-not-begins_instruction-clause-reads t c =
+compounds::compound-returns-then-not-begins_instruction-clause-reads measure c =
     let a = c.args in let all = a.tokens.now.tokens in let i = c.instructions.invariant in let ts = drop c.instructions.next all in
     let before = map instr_view c.instructions.tree.items in
     let none : form.begins_instruction (head ts) ≡ false = cc (c.next_terminal.ensures, c.begins_instruction.ensures, c.if-not-begins_instruction.true) in
@@ -166,7 +166,7 @@ compounds::compound-returns-then-not-begins_instruction-clause-reads t c =
     record { outcome = whole; forward = i.forward; within = i.within }
 
 pub compounds::compound-returns-then-room-eq0-clause-reads : goal.compounds::compound-returns-then-room-eq0-clause-reads
-compounds::compound-returns-then-room-eq0-clause-reads t c =
+compounds::compound-returns-then-room-eq0-clause-reads measure c =
     let a = c.args in let all = a.tokens.now.tokens in let i = c.instructions.invariant in let ts = drop c.instructions.next all in
     let before = map instr_view c.instructions.tree.items in
     let begins : form.begins_instruction (head ts) ≡ true = cc (c.next_terminal.ensures, c.begins_instruction.ensures, c.if-not-begins_instruction.false) in
@@ -175,7 +175,7 @@ compounds::compound-returns-then-room-eq0-clause-reads t c =
     record { outcome = whole; forward = i.forward; within = i.within }
 
 pub compounds::compound-returns-in_err-one-clause-reads : goal.compounds::compound-returns-in_err-one-clause-reads
-compounds::compound-returns-in_err-one-clause-reads t c =
+compounds::compound-returns-in_err-one-clause-reads measure c =
     let a = c.args in let all = a.tokens.now.tokens in let i = c.instructions.invariant in let ts = drop c.instructions.next all in
     let before = map instr_view c.instructions.tree.items in
     let begins : form.begins_instruction (head ts) ≡ true = cc (c.next_terminal.ensures, c.begins_instruction.ensures, c.if-not-begins_instruction.false) in
@@ -185,12 +185,12 @@ compounds::compound-returns-in_err-one-clause-reads t c =
     (λ rest r. rw (inss_behind-refused before rest) at (i.goes_on (refused rest) (compound_refused c.in_default.ensures begins lower r)))
 
 pub compounds::compound-instructions-smaller : goal.compounds::compound-instructions-smaller
-compounds::compound-instructions-smaller t c =
+compounds::compound-instructions-smaller measure c =
     let all = c.args.tokens.now.tokens in let one = c.in_ok-one.one in let r = c.in_ok-one.ensures.reads in
     let less : length all - one.next < length all - c.instructions.next = omega (arith, instruction_onward all c.instructions.next one.next r.outcome r.within, r.within) in less
 
 pub compounds::compound-instructions-preserved : goal.compounds::compound-instructions-preserved
-compounds::compound-instructions-preserved t c =
+compounds::compound-instructions-preserved measure c =
     let a = c.args in let all = a.tokens.now.tokens in let one = c.in_ok-one.one in let r = c.in_ok-one.ensures.reads in let i = c.instructions.invariant in
     let ts = drop c.instructions.next all in let before = map instr_view c.instructions.tree.items in
     let pushed : map instr_view c.push.new.self.items ≡ before ++ instr_view one.tree ∷ [] = grind (arith, common_steps, c.in_ok-push.ensures.items) in
@@ -208,7 +208,7 @@ compounds::compound-instructions-preserved t c =
 -- ---- instruction
 
 pub instructions::instruction-returns-in_default : goal.instructions::instruction-returns-in_default
-instructions::instruction-returns-in_default t c =
+instructions::instruction-returns-in_default measure c =
     let a = c.args in let ts = drop a.from a.tokens.now.tokens in let same = c.next_terminal.ensures in let not = c.in_default in
     let none : instruction_start (head ts) ≡ no_instruction =
     nothing_begins (head ts) (λ e. not.not-Identifier (same ∙ e)) (λ e. not.not-Result (same ∙ e)) (λ e. not.not-Precursor (same ∙ e)) (λ e. not.not-Current (same ∙ e))
@@ -218,19 +218,19 @@ instructions::instruction-returns-in_default t c =
 -- ---- repeated
 
 pub loops::repeated-returns-then-room-eq1-clause-reads : goal.loops::repeated-returns-then-room-eq1-clause-reads
-loops::repeated-returns-then-room-eq1-clause-reads t c =
+loops::repeated-returns-then-room-eq1-clause-reads measure c =
     let a = c.args in let ts = drop a.from a.tokens.now.tokens in
     record { outcome = instruction_at a.room ts (refused ts) by_from (ap instruction_start c.requires.begins) (no_room 1 a.room (omega arith)); forward = omega arith; within = c.requires.start }
 
 pub loops::repeated-returns-in_err-start-clause-reads : goal.loops::repeated-returns-in_err-start-clause-reads
-loops::repeated-returns-in_err-start-clause-reads t c =
+loops::repeated-returns-in_err-start-clause-reads measure c =
     let a = c.args in let all = a.tokens.now.tokens in let word = c.after.ensures in
     let lower : 1 < a.room = omega (arith, c.requires.some, c.if-room-eq1.false) in
     relay (Calls (instruction_goal (compound (a.room - 1))) (drop c.after.result all)) (Calls (instruction_goal (instruction a.room)) (drop a.from all)) inss_view instr_view all c.after.result a.from _ _
     c.from_residual.ensures.1 c.in_err-start.ensures.reads (omega (arith, word.behind)) (λ rest d. loop_whole c.requires.begins lower word (call_refused d))
 
 pub loops::repeated-returns-in_err-claims-clause-reads : goal.loops::repeated-returns-in_err-claims-clause-reads
-loops::repeated-returns-in_err-claims-clause-reads t c =
+loops::repeated-returns-in_err-claims-clause-reads measure c =
     let a = c.args in let all = a.tokens.now.tokens in let word = c.after.ensures in let start = c.in_ok-start.start in let r1 = c.in_ok-start.ensures.reads in
     let lower : 1 < a.room = omega (arith, c.requires.some, c.if-room-eq1.false) in
     relay (Calls (instruction_goal (invariants (a.room - 1))) (drop start.next all)) (Calls (instruction_goal (instruction a.room)) (drop a.from all)) assertions_view instr_view all start.next a.from _ _
@@ -238,16 +238,16 @@ loops::repeated-returns-in_err-claims-clause-reads t c =
     (λ rest d. loop_whole c.requires.begins lower word (called r1.outcome (call_refused d)))
 
 pub loops::repeated-returns-in_err-until-clause-reads : goal.loops::repeated-returns-in_err-until-clause-reads
-loops::repeated-returns-in_err-until-clause-reads t c =
+loops::repeated-returns-in_err-until-clause-reads measure c =
     let a = c.args in let all = a.tokens.now.tokens in let word = c.after.ensures in let r1 = c.in_ok-start.ensures.reads in
     let claims = c.in_ok-claims.claims in let r2 = c.in_ok-claims.ensures.reads in
     let lower : 1 < a.room = omega (arith, c.requires.some, c.if-room-eq1.false) in
-    relay_token (Calls (instruction_goal (instruction a.room)) (drop a.from all)) instr_view v.Until all claims.next a.from _ _
+    relay_token (Calls (instruction_goal (instruction a.room)) (drop a.from all)) instr_view t.Until all claims.next a.from _ _
     c.from_residual-in_err-until.ensures.1 c.in_err-until.ensures (omega (arith, word.behind, r1.forward, r2.forward)) r2.within
     (λ other. loop_whole c.requires.begins lower word (called r1.outcome (called r2.outcome (other_here other))))
 
 pub loops::repeated-returns-in_err-exit-clause-reads : goal.loops::repeated-returns-in_err-exit-clause-reads
-loops::repeated-returns-in_err-exit-clause-reads t c =
+loops::repeated-returns-in_err-exit-clause-reads measure c =
     let a = c.args in let all = a.tokens.now.tokens in let word = c.after.ensures in let r1 = c.in_ok-start.ensures.reads in let r2 = c.in_ok-claims.ensures.reads in
     let start = c.in_ok-until.until in let until = c.in_ok-until.ensures in
     let lower : 1 < a.room = omega (arith, c.requires.some, c.if-room-eq1.false) in
@@ -256,16 +256,16 @@ loops::repeated-returns-in_err-exit-clause-reads t c =
     (λ rest d. loop_whole c.requires.begins lower word (called r1.outcome (called r2.outcome (expect_here until (call_refused d)))))
 
 pub loops::repeated-returns-in_err-inner-clause-reads : goal.loops::repeated-returns-in_err-inner-clause-reads
-loops::repeated-returns-in_err-inner-clause-reads t c =
+loops::repeated-returns-in_err-inner-clause-reads measure c =
     let a = c.args in let all = a.tokens.now.tokens in let word = c.after.ensures in let r1 = c.in_ok-start.ensures.reads in let r2 = c.in_ok-claims.ensures.reads in
     let until = c.in_ok-until.ensures in let exit = c.in_ok-exit.exit in let r3 = c.in_ok-exit.ensures.reads in
     let lower : 1 < a.room = omega (arith, c.requires.some, c.if-room-eq1.false) in
-    relay_token (Calls (instruction_goal (instruction a.room)) (drop a.from all)) instr_view v.Loop all exit.next a.from _ _
+    relay_token (Calls (instruction_goal (instruction a.room)) (drop a.from all)) instr_view t.Loop all exit.next a.from _ _
     c.from_residual-in_err-inner.ensures.1 c.in_err-inner.ensures (omega (arith, word.behind, r1.forward, r2.forward, until.behind, r3.forward)) r3.within
     (λ other. loop_whole c.requires.begins lower word (called r1.outcome (called r2.outcome (expect_here until (called r3.outcome (other_here other))))))
 
 pub loops::repeated-returns-in_err-body-clause-reads : goal.loops::repeated-returns-in_err-body-clause-reads
-loops::repeated-returns-in_err-body-clause-reads t c =
+loops::repeated-returns-in_err-body-clause-reads measure c =
     let a = c.args in let all = a.tokens.now.tokens in let word = c.after.ensures in let r1 = c.in_ok-start.ensures.reads in let r2 = c.in_ok-claims.ensures.reads in
     let until = c.in_ok-until.ensures in let r3 = c.in_ok-exit.ensures.reads in let start = c.in_ok-inner.inner in let inner = c.in_ok-inner.ensures in
     let lower : 1 < a.room = omega (arith, c.requires.some, c.if-room-eq1.false) in
@@ -274,7 +274,7 @@ loops::repeated-returns-in_err-body-clause-reads t c =
     (λ rest d. loop_whole c.requires.begins lower word (called r1.outcome (called r2.outcome (expect_here until (called r3.outcome (expect_here inner (call_refused d)))))))
 
 pub loops::repeated-returns-in_err-bound-clause-reads : goal.loops::repeated-returns-in_err-bound-clause-reads
-loops::repeated-returns-in_err-bound-clause-reads t c =
+loops::repeated-returns-in_err-bound-clause-reads measure c =
     let a = c.args in let all = a.tokens.now.tokens in let word = c.after.ensures in let r1 = c.in_ok-start.ensures.reads in let r2 = c.in_ok-claims.ensures.reads in
     let until = c.in_ok-until.ensures in let r3 = c.in_ok-exit.ensures.reads in let inner = c.in_ok-inner.ensures in
     let body = c.in_ok-body.body in let r4 = c.in_ok-body.ensures.reads in
@@ -285,18 +285,18 @@ loops::repeated-returns-in_err-bound-clause-reads t c =
     (called r1.outcome (called r2.outcome (expect_here until (called r3.outcome (expect_here inner (called r4.outcome (call_refused d))))))))
 
 pub loops::repeated-returns-in_err-next-clause-reads : goal.loops::repeated-returns-in_err-next-clause-reads
-loops::repeated-returns-in_err-next-clause-reads t c =
+loops::repeated-returns-in_err-next-clause-reads measure c =
     let a = c.args in let all = a.tokens.now.tokens in let word = c.after.ensures in let r1 = c.in_ok-start.ensures.reads in let r2 = c.in_ok-claims.ensures.reads in
     let until = c.in_ok-until.ensures in let r3 = c.in_ok-exit.ensures.reads in let inner = c.in_ok-inner.ensures in let r4 = c.in_ok-body.ensures.reads in
     let last = c.in_ok-bound.bound in let r5 = c.in_ok-bound.ensures.reads in
     let lower : 1 < a.room = omega (arith, c.requires.some, c.if-room-eq1.false) in
-    relay_token (Calls (instruction_goal (instruction a.room)) (drop a.from all)) instr_view v.End all last.next a.from _ _
+    relay_token (Calls (instruction_goal (instruction a.room)) (drop a.from all)) instr_view t.End all last.next a.from _ _
     c.from_residual-in_err-next.ensures.1 c.in_err-next.ensures (omega (arith, word.behind, r1.forward, r2.forward, until.behind, r3.forward, inner.behind, r4.forward, r5.forward)) r5.within
     (λ other. loop_whole c.requires.begins lower word
     (called r1.outcome (called r2.outcome (expect_here until (called r3.outcome (expect_here inner (called r4.outcome (called r5.outcome (other_here other)))))))))
 
 pub loops::repeated-returns-clause-reads : goal.loops::repeated-returns-clause-reads
-loops::repeated-returns-clause-reads t c =
+loops::repeated-returns-clause-reads measure c =
     let a = c.args in let all = a.tokens.now.tokens in let word = c.after.ensures in let r1 = c.in_ok-start.ensures.reads in let r2 = c.in_ok-claims.ensures.reads in
     let until = c.in_ok-until.ensures in let r3 = c.in_ok-exit.ensures.reads in let inner = c.in_ok-inner.ensures in let r4 = c.in_ok-body.ensures.reads in
     let r5 = c.in_ok-bound.ensures.reads in let close = c.in_ok-next.ensures in

@@ -1,5 +1,5 @@
 use Rattle.std.proofs.Common.{◌≡◌, map, drop}
-use Rattle.eif_tree.specs.Parts as parts
+use Rattle.eif_tree.specs.Members as parts
 use Rattle.eif_check.specs.Mentions.{name_at}
 use Rattle.eif_check.proofs.mention.has_name.Given as goal
 

@@ -5,7 +5,7 @@ use Rattle.eif_tree.specs.declared.Expr.{the_lemmas as expr_lemmas}
 use Rattle.eif_tree.specs.declared.ExprKind.{the_lemmas as kind_lemmas}
 use Rattle.eif_tree.specs.Tree.{call, unqualified}
 use Rattle.eif_tree.specs.View.{instr_view, expr_view, exs_from}
-use Rattle.eif_tree.specs.Parts.{called_by}
+use Rattle.eif_tree.specs.Members.{called_by}
 use Rattle.eif_check.specs.Mentions.{name_at}
 use Rattle.eif_check.proofs.Calls.{called_by-more}
 use Rattle.eif_check.proofs.mention.push_called_by.Goals as goal

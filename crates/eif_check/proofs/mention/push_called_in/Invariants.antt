@@ -1,5 +1,5 @@
 use Rattle.std.proofs.Common.{◌≡◌, ◌++◌, map, drop}
-use Rattle.eif_tree.specs.Parts.{called_in}
+use Rattle.eif_tree.specs.Members.{called_in}
 use Rattle.eif_tree.specs.View.{inss_from, instr_view}
 use Rattle.eif_check.specs.Mentions.{name_at}
 use Rattle.eif_check.proofs.mention.push_called_in.Given as goal

@@ -1,6 +1,6 @@
 use Rattle.std.proofs.Common.{◌≡◌, map, drop}
 use Rattle.std.specs.List.{list_all}
-use Rattle.eif_tree.specs.Parts.{has_name}
+use Rattle.eif_tree.specs.Members.{has_name}
 use Rattle.eif_check.specs.Mentions.{name_at}
 use Rattle.eif_check.proofs.plain.are_declared.Given as goal
 

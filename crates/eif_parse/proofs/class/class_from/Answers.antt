@@ -4,7 +4,7 @@ use Rattle.eif_grammar.specs.ClassRules.{class_from}
 use Rattle.eif_grammar.specs.Outcomes.{Runs}
 use Rattle.eif_parse_expr.proofs.Bind.{bound}
 use Rattle.eif_parse_expr.proofs.Steps.{carry}
-use Rattle.eif_parse.specs.Subrules.{class_head, class_rest, head_view}
+use Rattle.eif_parse.specs.ClassSubrules.{class_head, class_rest, head_view}
 use Rattle.eif_parse.proofs.class.class_from.Goals as goal
 
 pub returns : goal.returns

@@ -4,7 +4,7 @@ use Rattle.eif_grammar.specs.Goals.{formals, obsolete, class_goal}
 use Rattle.eif_grammar.specs.Outcomes.{got, Runs, Calls}
 use Rattle.eif_grammar_laws.proofs.Readers.{called, call_refused, ended}
 use Rattle.eif_parse_expr.proofs.Steps.{relay, relay_token, relay_name, token_here, expect_here, other_here}
-use Rattle.eif_parse.specs.Subrules.{class_head, head_view, formals_view}
+use Rattle.eif_parse.specs.ClassSubrules.{class_head, head_view, formals_view}
 use Rattle.eif_parse.proofs.class.class_head.Goals as goal
 
 pub returns-in_err-start : goal.returns-in_err-start

@@ -7,7 +7,7 @@ use Rattle.eif_grammar.specs.Parts.{most_height}
 use Rattle.eif_grammar_laws.proofs.Readers.{called, call_refused, ended}
 use Rattle.eif_parse_expr.specs.InstructionSubrules.{assertions_view}
 use Rattle.eif_parse_expr.proofs.Steps.{relay, relay_token, expect_here, other_here}
-use Rattle.eif_parse.specs.Subrules.{class_rest, head_view, creators_parts, features_parts}
+use Rattle.eif_parse.specs.ClassSubrules.{class_rest, head_view, creators_parts, features_parts}
 use Rattle.eif_parse.proofs.class.class_rest.Goals as goal
 
 pub returns-in_err-creators : goal.returns-in_err-creators

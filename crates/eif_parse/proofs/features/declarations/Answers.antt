@@ -6,7 +6,7 @@ use Rattle.eif_grammar.specs.declared.terminal.Terminal.TheVariants as t
 use Rattle.eif_grammar.specs.Goals.{declaration, declarations, class_goal}
 use Rattle.eif_grammar.specs.Outcomes.{got, refused, Calls}
 use Rattle.eif_grammar.specs.Spelling.{head}
-use Rattle.eif_parse.specs.Subrules.{decls_view}
+use Rattle.eif_parse.specs.ClassSubrules.{decls_view}
 use Rattle.eif_parse.proofs.Lists.{behind, behind-more}
 use Rattle.eif_parse.proofs.FeatureSteps.{declaration_onward, no_declarations, declarations_refused, more_declarations}
 use Rattle.eif_parse_expr.proofs.Steps.{relay}

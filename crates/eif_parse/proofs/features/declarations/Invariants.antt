@@ -2,7 +2,7 @@ use Rattle.std.proofs.Common.{◌≤◌, ◌-◌, drop, length, List}
 use Rattle.eif_tree.specs.Tree.{DeclT}
 use Rattle.eif_grammar.specs.Goals as goals
 use Rattle.eif_grammar.specs.Outcomes.{Outcome, Calls}
-use Rattle.eif_parse.specs.Subrules.{decls_view}
+use Rattle.eif_parse.specs.ClassSubrules.{decls_view}
 use Rattle.eif_parse.proofs.Lists.{behind}
 use Rattle.eif_parse.proofs.features.declarations.Given as goal
 

@@ -7,7 +7,7 @@ use Rattle.eif_grammar.specs.ClassRules.{features_of}
 use Rattle.eif_grammar.specs.Goals.{declarations, features, class_goal}
 use Rattle.eif_grammar.specs.Outcomes.{got, refused, Runs, Calls}
 use Rattle.eif_grammar_laws.proofs.Readers.{call_refused}
-use Rattle.eif_parse.specs.Subrules.{maybe_clients, decls_view, features_parts}
+use Rattle.eif_parse.specs.ClassSubrules.{maybe_clients, decls_view, features_parts}
 use Rattle.eif_parse.proofs.Lists.{behind, behind-more}
 use Rattle.eif_parse.proofs.FeatureSteps.{no_features, features_from, more_features}
 use Rattle.eif_parse_expr.proofs.Bind.{bound, bound_refused}

@@ -2,7 +2,7 @@ use Rattle.std.proofs.Common.{◌≤◌, ◌-◌, drop, length, List}
 use Rattle.eif_tree.specs.Tree.{FeaturesT}
 use Rattle.eif_grammar.specs.Goals as goals
 use Rattle.eif_grammar.specs.Outcomes.{Outcome, Calls}
-use Rattle.eif_parse.specs.Subrules.{features_parts}
+use Rattle.eif_parse.specs.ClassSubrules.{features_parts}
 use Rattle.eif_parse.proofs.Lists.{behind}
 use Rattle.eif_parse.proofs.features.features.Given as goal
 

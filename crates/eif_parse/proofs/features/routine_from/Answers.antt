@@ -5,7 +5,7 @@ use Rattle.eif_grammar.specs.Goals.{result_type, routine_rest, class_goal}
 use Rattle.eif_grammar.specs.Outcomes.{Calls}
 use Rattle.eif_grammar_laws.proofs.Readers.{called, call_refused}
 use Rattle.eif_grammar_laws.proofs.Taken.{tail}
-use Rattle.eif_parse.specs.Subrules.{groups_view}
+use Rattle.eif_parse.specs.ClassSubrules.{groups_view}
 use Rattle.eif_parse_expr.proofs.Steps.{carry, relay}
 use Rattle.eif_parse.proofs.features.routine_from.Goals as goal
 

@@ -6,8 +6,8 @@ use Rattle.eif_grammar.specs.Outcomes.{refused, Runs, Calls}
 use Rattle.eif_grammar.specs.Parts.{most_height}
 use Rattle.eif_grammar.specs.Reader.{name_of}
 use Rattle.eif_grammar_laws.proofs.Readers.{called, call_refused}
-use Rattle.eif_parse.specs.Subrules.{names_view, names_behind}
-use Rattle.eif_parse_expr.specs.Reads.{first}
+use Rattle.eif_parse.specs.ClassSubrules.{names_view, names_behind}
+use Rattle.eif_parse_expr.specs.Readings.{first}
 use Rattle.eif_parse_expr.proofs.Bind.{bound, bound_refused}
 use Rattle.eif_parse_expr.proofs.Steps.{carry, relay, relay_name, other_here}
 use Rattle.eif_parse.proofs.FeatureSteps.{typed_names, several_from}

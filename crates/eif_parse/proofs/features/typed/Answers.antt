@@ -5,7 +5,7 @@ use Rattle.eif_grammar.specs.Forms.{begins_routine}
 use Rattle.eif_grammar.specs.Goals.{routine_rest, class_goal}
 use Rattle.eif_grammar.specs.Outcomes.{Runs, Calls}
 use Rattle.eif_grammar.specs.Spelling.{head}
-use Rattle.eif_parse.specs.Subrules.{groups_view}
+use Rattle.eif_parse.specs.ClassSubrules.{groups_view}
 use Rattle.eif_parse_expr.proofs.Steps.{carry}
 use Rattle.eif_parse.proofs.FeatureSteps.{typed_routine, typed_value}
 use Rattle.eif_parse.proofs.features.typed.Goals as goal

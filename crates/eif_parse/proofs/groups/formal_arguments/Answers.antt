@@ -4,7 +4,7 @@ use Rattle.eif_grammar.specs.ClassRules.{groups_from}
 use Rattle.eif_grammar.specs.Goals.{formal_arguments, class_goal}
 use Rattle.eif_grammar.specs.Outcomes.{got, Runs, Calls}
 use Rattle.eif_parse_expr.proofs.Steps.{relay, relay_token}
-use Rattle.eif_parse.specs.Subrules.{groups_view}
+use Rattle.eif_parse.specs.ClassSubrules.{groups_view}
 use Rattle.eif_parse.proofs.GroupSteps.{no_arguments, arguments_refused, arguments_unclosed, arguments_whole}
 use Rattle.eif_parse.proofs.groups.formal_arguments.Goals as goal
 

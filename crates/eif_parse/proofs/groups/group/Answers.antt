@@ -4,7 +4,7 @@ use Rattle.eif_grammar.specs.Goals.{written, group, type_goal, class_goal}
 use Rattle.eif_grammar.specs.Parts.{most_height}
 use Rattle.eif_grammar.specs.Outcomes.{got, Runs, Calls}
 use Rattle.eif_parse_expr.proofs.Steps.{relay, relay_name}
-use Rattle.eif_parse.specs.Subrules as rule
+use Rattle.eif_parse.specs.ClassSubrules as rule
 use Rattle.eif_parse.proofs.GroupSteps.{no_group, group_unnamed, group_untyped, group_whole}
 use Rattle.eif_parse.proofs.groups.group.Goals as goal
 

@@ -9,7 +9,7 @@ use Rattle.eif_grammar.specs.Outcomes.{got, refused, Runs, Calls}
 use Rattle.eif_grammar.specs.Spelling.{head}
 use Rattle.eif_grammar_laws.proofs.Readers.{call_refused}
 use Rattle.eif_parse_expr.proofs.Steps.{relay}
-use Rattle.eif_parse.specs.Subrules.{groups_view}
+use Rattle.eif_parse.specs.ClassSubrules.{groups_view}
 use Rattle.eif_parse.proofs.Lists.{behind, behind-more}
 use Rattle.eif_parse.proofs.GroupSteps.{group_onward, last_group, one_more_group}
 use Rattle.eif_parse.proofs.groups.group_list.Goals.{else-next-one-via-then-next-one+else-not-is_at, else-next-one-via-else-next-one}

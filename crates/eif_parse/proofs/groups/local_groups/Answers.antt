@@ -7,7 +7,7 @@ use Rattle.eif_grammar.specs.Goals.{group, local_groups, class_goal}
 use Rattle.eif_grammar.specs.Outcomes.{got, refused, Calls}
 use Rattle.eif_grammar.specs.Spelling.{head}
 use Rattle.eif_parse_expr.proofs.Steps.{relay}
-use Rattle.eif_parse.specs.Subrules.{groups_view}
+use Rattle.eif_parse.specs.ClassSubrules.{groups_view}
 use Rattle.eif_parse.proofs.Lists.{behind, behind-more}
 use Rattle.eif_parse.proofs.GroupSteps.{group_onward, no_local, local_refused, one_more_local}
 use Rattle.eif_parse.proofs.groups.local_groups.Goals as goal

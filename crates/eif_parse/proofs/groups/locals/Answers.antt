@@ -2,7 +2,7 @@ use Rattle.std.proofs.Common.{◌≡◌, [], drop, refl, arith}
 use Rattle.eif_grammar.specs.Goals.{local_groups, locals, class_goal}
 use Rattle.eif_grammar.specs.Outcomes.{got, Calls}
 use Rattle.eif_parse_expr.proofs.Steps.{carry}
-use Rattle.eif_parse.specs.Subrules.{groups_view}
+use Rattle.eif_parse.specs.ClassSubrules.{groups_view}
 use Rattle.eif_parse.proofs.GroupSteps.{no_locals, locals_found}
 use Rattle.eif_parse.proofs.groups.locals.Goals as goal
 

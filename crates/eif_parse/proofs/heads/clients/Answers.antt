@@ -4,7 +4,7 @@ use Rattle.eif_grammar.specs.declared.terminal.Terminal.TheVariants as t
 use Rattle.eif_grammar.specs.Goals.{names, clients, class_goal}
 use Rattle.eif_grammar.specs.Outcomes.{got, Calls}
 use Rattle.eif_parse_expr.proofs.Steps.{relay, relay_token}
-use Rattle.eif_parse.specs.Subrules.{names_view}
+use Rattle.eif_parse.specs.ClassSubrules.{names_view}
 use Rattle.eif_parse.proofs.HeadSteps.{no_brace, empty_braces, clients_refused, clients_unclosed, clients_whole}
 use Rattle.eif_parse.proofs.heads.clients.Goals as goal
 

@@ -5,7 +5,7 @@ use Rattle.eif_tree.specs.View.{clients_view, creators_view}
 use Rattle.eif_grammar.specs.Goals.{names, creators, class_goal}
 use Rattle.eif_grammar.specs.Outcomes.{got, refused, Runs, Calls}
 use Rattle.eif_parse_expr.proofs.Steps.{relay}
-use Rattle.eif_parse.specs.Subrules.{maybe_clients, names_view, creators_parts}
+use Rattle.eif_parse.specs.ClassSubrules.{maybe_clients, names_view, creators_parts}
 use Rattle.eif_parse.proofs.Lists.{behind, behind-more}
 use Rattle.eif_parse.proofs.HeadSteps.{no_creators, creators_unnamed, creators_refused, creators_part, creators_more}
 use Rattle.eif_parse.proofs.heads.creators.Goals as goal

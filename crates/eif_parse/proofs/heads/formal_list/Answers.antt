@@ -5,7 +5,7 @@ use Rattle.eif_grammar.specs.Goals.{formal, class_goal}
 use Rattle.eif_grammar.specs.Outcomes.{got, refused, Runs, Calls}
 use Rattle.eif_grammar_laws.proofs.Readers.{call_refused}
 use Rattle.eif_parse_expr.proofs.Steps.{relay}
-use Rattle.eif_parse.specs.Subrules.{formal_list, formals_view}
+use Rattle.eif_parse.specs.ClassSubrules.{formal_list, formals_view}
 use Rattle.eif_parse.proofs.Lists.{behind, behind-more}
 use Rattle.eif_parse.proofs.HeadSteps.{last_formal, one_more_formal}
 use Rattle.eif_parse.proofs.heads.formal_list.Goals as goal

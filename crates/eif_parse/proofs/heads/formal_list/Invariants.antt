@@ -2,7 +2,7 @@ use Rattle.std.proofs.Common.{◌≤◌, ◌-◌, drop, length, map, List}
 use Rattle.eif_tree.specs.Tree.{FormalT}
 use Rattle.eif_tree.specs.View.{formal_view}
 use Rattle.eif_grammar.specs.Outcomes.{Outcome, Runs}
-use Rattle.eif_parse.specs.Subrules as rule
+use Rattle.eif_parse.specs.ClassSubrules as rule
 use Rattle.eif_parse.proofs.Lists.{behind}
 use Rattle.eif_parse.proofs.heads.formal_list.Given as goal
 

@@ -3,7 +3,7 @@ use Rattle.eif_grammar.specs.declared.terminal.Terminal.TheVariants as t
 use Rattle.eif_grammar.specs.Goals.{formals, class_goal}
 use Rattle.eif_grammar.specs.Outcomes.{got, Runs, Calls}
 use Rattle.eif_parse_expr.proofs.Steps.{relay, relay_token}
-use Rattle.eif_parse.specs.Subrules.{formal_list, formals_view}
+use Rattle.eif_parse.specs.ClassSubrules.{formal_list, formals_view}
 use Rattle.eif_parse.proofs.HeadSteps.{no_formals, formals_refused, formals_unclosed, formals_whole}
 use Rattle.eif_parse.proofs.heads.formals.Goals as goal
 

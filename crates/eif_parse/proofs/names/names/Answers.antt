@@ -2,9 +2,9 @@ use Rattle.std.proofs.Common.{◌≡◌, ◌++◌, ◌∷◌, [], drop, arith}
 use Rattle.eif_grammar.specs.Goals.{names, class_goal}
 use Rattle.eif_grammar.specs.Outcomes.{got, refused, Calls}
 use Rattle.eif_grammar.specs.Reader.{name_of}
-use Rattle.eif_parse_expr.specs.Reads.{first}
+use Rattle.eif_parse_expr.specs.Readings.{first}
 use Rattle.eif_parse_expr.proofs.Steps.{relay_name}
-use Rattle.eif_parse.specs.Subrules.{names_view}
+use Rattle.eif_parse.specs.ClassSubrules.{names_view}
 use Rattle.eif_parse.proofs.Lists.{behind, behind-more}
 use Rattle.eif_parse.proofs.NameSteps.{no_names, last_name, one_more_name}
 use Rattle.eif_parse.proofs.names.names.Goals as goal

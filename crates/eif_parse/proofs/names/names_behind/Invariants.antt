@@ -2,7 +2,7 @@ use Rattle.std.proofs.Common.{◌≤◌, ◌-◌, drop, length, List}
 use Rattle.eif_tree.specs.declared.NameAt.{NameAt}
 use Rattle.eif_grammar.specs.Goals as goals
 use Rattle.eif_grammar.specs.Outcomes.{Outcome, Runs, Calls}
-use Rattle.eif_parse.specs.Subrules as rule
+use Rattle.eif_parse.specs.ClassSubrules as rule
 use Rattle.eif_parse.proofs.Lists.{behind}
 use Rattle.eif_parse.proofs.names.names_behind.Given as goal
 

@@ -4,7 +4,7 @@ use Rattle.eif_grammar.specs.Goals.{note_entries, class_goal}
 use Rattle.eif_grammar.specs.Outcomes.{got, refused, Runs, Calls}
 use Rattle.eif_grammar_laws.proofs.Readers.{by_rule, ended}
 use Rattle.eif_grammar_laws.proofs.Terminals.{on_other}
-use Rattle.eif_parse.specs.Subrules as rule
+use Rattle.eif_parse.specs.ClassSubrules as rule
 use Rattle.eif_parse_expr.proofs.Bind.{bound_refused}
 use Rattle.eif_parse_expr.proofs.Steps.{relay, relay_token, on_here, expect_here, other_here}
 use Rattle.eif_parse.proofs.NoteSteps.{items_rest, one_more_note}

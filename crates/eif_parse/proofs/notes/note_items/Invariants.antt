@@ -1,6 +1,6 @@
 use Rattle.std.proofs.Common.{◌≤◌, ◌-◌, drop, length}
 use Rattle.eif_grammar.specs.Outcomes.{Outcome, Runs}
-use Rattle.eif_parse.specs.Subrules as rule
+use Rattle.eif_parse.specs.ClassSubrules as rule
 use Rattle.eif_parse.proofs.notes.note_items.Given as goal
 
 -- what is found from here on is found from the start

@@ -2,8 +2,8 @@ use Rattle.std.proofs.Common.{◌≡◌, Some, None, drop, sym, arith}
 use Rattle.eif_grammar.specs.ClassRules.{no_literal}
 use Rattle.eif_grammar.specs.Spelling.{head}
 use Rattle.eif_grammar_laws.proofs.Readers.{refuses}
-use Rattle.eif_parse_expr.specs.Reads.{first}
-use Rattle.eif_parse.specs.Subrules.{literal_value}
+use Rattle.eif_parse_expr.specs.Readings.{first}
+use Rattle.eif_parse.specs.ClassSubrules.{literal_value}
 use Rattle.eif_parse.proofs.NoteSteps.{literal_begun, literal_here, not_literal}
 use Rattle.eif_parse.proofs.notes.unsigned.Goals as goal
 

@@ -3,7 +3,7 @@ use Rattle.eif_tree.specs.View.{parent_view}
 use Rattle.eif_grammar.specs.Outcomes.{Runs}
 use Rattle.eif_grammar.specs.SpelledClasses.{clause_length}
 use Rattle.eif_parse_expr.proofs.Steps.{carry}
-use Rattle.eif_parse.specs.Subrules as rule
+use Rattle.eif_parse.specs.ClassSubrules as rule
 use Rattle.eif_parse.proofs.ParentSteps.{clause_here}
 use Rattle.eif_parse.proofs.parents.clause.Goals as goal
 

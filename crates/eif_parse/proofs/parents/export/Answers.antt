@@ -5,7 +5,7 @@ use Rattle.eif_grammar.specs.Outcomes.{got, Calls}
 use Rattle.eif_grammar_laws.proofs.Readers.{by_rule, called, call_refused, ended}
 use Rattle.eif_grammar_laws.proofs.Terminals.{on_other}
 use Rattle.eif_parse_expr.proofs.Steps.{relay, on_here}
-use Rattle.eif_parse.specs.Subrules.{names_view}
+use Rattle.eif_parse.specs.ClassSubrules.{names_view}
 use Rattle.eif_parse.proofs.parents.export.Goals as goal
 
 pub returns-in_err-clients : goal.returns-in_err-clients

@@ -7,7 +7,7 @@ use Rattle.eif_grammar.specs.Outcomes.{got, refused, Calls}
 use Rattle.eif_grammar.specs.Spelling.{head}
 use Rattle.eif_grammar_laws.proofs.Readers.{by_rule, call_refused}
 use Rattle.eif_parse_expr.proofs.Steps.{relay}
-use Rattle.eif_parse.specs.Subrules.{exports_view}
+use Rattle.eif_parse.specs.ClassSubrules.{exports_view}
 use Rattle.eif_parse.proofs.Lists.{behind, behind-more}
 use Rattle.eif_parse.proofs.ParentSteps.{last_export, one_more_export, export_onward}
 use Rattle.eif_parse.proofs.parents.exports.Goals as goal

@@ -8,7 +8,7 @@ use Rattle.eif_grammar.specs.Outcomes.{got, refused, Runs, Calls}
 use Rattle.eif_grammar.specs.Spelling.{head}
 use Rattle.eif_grammar_laws.proofs.Readers.{ended}
 use Rattle.eif_parse_expr.proofs.Steps.{relay, relay_token, expect_here, other_here}
-use Rattle.eif_parse.specs.Subrules.{clause}
+use Rattle.eif_parse.specs.ClassSubrules.{clause}
 use Rattle.eif_parse.proofs.ParentSteps.{begins_is, one_more_clause, clause_refused, clauses_over, clause_onward}
 use Rattle.eif_parse.proofs.parents.more_clauses.Goals as goal
 

@@ -8,7 +8,7 @@ use Rattle.eif_grammar.specs.Outcomes.{got, refused, Runs, Calls}
 use Rattle.eif_grammar.specs.Spelling.{head}
 use Rattle.eif_grammar_laws.proofs.Readers.{call_refused}
 use Rattle.eif_parse_expr.proofs.Steps.{relay}
-use Rattle.eif_parse.specs.Subrules.{parents_view}
+use Rattle.eif_parse.specs.ClassSubrules.{parents_view}
 use Rattle.eif_parse.proofs.Lists.{behind, behind-more}
 use Rattle.eif_parse.proofs.ParentSteps.{last_parent, one_more_parent, parent_onward}
 use Rattle.eif_parse.proofs.parents.parent_list.Goals as goal

@@ -4,7 +4,7 @@ use Rattle.eif_grammar.specs.Goals.{parents, class_goal}
 use Rattle.eif_grammar.specs.Outcomes.{got, Runs, Calls}
 use Rattle.eif_grammar_laws.proofs.Readers.{by_rule, ended}
 use Rattle.eif_grammar_laws.proofs.Terminals.{on_other}
-use Rattle.eif_parse.specs.Subrules.{parents_view}
+use Rattle.eif_parse.specs.ClassSubrules.{parents_view}
 use Rattle.eif_parse_expr.proofs.Steps.{carry, on_here}
 use Rattle.eif_parse.proofs.parents.parents.Goals as goal
 

@@ -3,7 +3,7 @@ use Rattle.eif_grammar.specs.Goals.{rename, renames, class_goal}
 use Rattle.eif_grammar.specs.Outcomes.{got, refused, Calls}
 use Rattle.eif_grammar_laws.proofs.Readers.{by_rule, call_refused}
 use Rattle.eif_parse_expr.proofs.Steps.{relay}
-use Rattle.eif_parse.specs.Subrules.{renames_view}
+use Rattle.eif_parse.specs.ClassSubrules.{renames_view}
 use Rattle.eif_parse.proofs.Lists.{behind, behind-more}
 use Rattle.eif_parse.proofs.ParentSteps.{last_rename, one_more_rename}
 use Rattle.eif_parse.proofs.parents.renames.Goals as goal

@@ -6,7 +6,7 @@ use Rattle.eif_grammar.specs.Outcomes.{got, Calls}
 use Rattle.eif_grammar.specs.Parts.{most_height}
 use Rattle.eif_grammar_laws.proofs.Readers.{by_rule, called, call_refused, ended}
 use Rattle.eif_grammar_laws.proofs.Terminals.{on_other}
-use Rattle.eif_parse.specs.Subrules.{groups_view}
+use Rattle.eif_parse.specs.ClassSubrules.{groups_view}
 use Rattle.eif_parse_expr.specs.InstructionSubrules.{inss_view}
 use Rattle.eif_parse_expr.proofs.Steps.{relay, relay_token, on_here, expect_here, other_here}
 use Rattle.eif_parse.proofs.routines.body.Goals as goal

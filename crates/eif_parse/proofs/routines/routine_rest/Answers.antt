@@ -5,7 +5,7 @@ use Rattle.eif_grammar.specs.declared.terminal.Terminal.TheVariants as t
 use Rattle.eif_grammar.specs.Goals.{obsolete, conditions, body, routine_rest, class_goal}
 use Rattle.eif_grammar.specs.Outcomes.{got, Calls}
 use Rattle.eif_grammar_laws.proofs.Readers.{by_rule, called, call_refused, ended}
-use Rattle.eif_parse.specs.Subrules.{groups_view}
+use Rattle.eif_parse.specs.ClassSubrules.{groups_view}
 use Rattle.eif_parse_expr.specs.InstructionSubrules.{assertions_view}
 use Rattle.eif_parse_expr.proofs.Steps.{relay, relay_token, expect_here, other_here}
 use Rattle.eif_parse.proofs.routines.routine_rest.Goals as goal

@@ -11,7 +11,7 @@ use Rattle.eif_grammar_laws.proofs.InstructionSteps.{instruction_at}
 use Rattle.eif_grammar_laws.proofs.Readers.{called, call_refused}
 use Rattle.eif_grammar_laws.proofs.Taken.{roomy}
 use Rattle.eif_grammar_laws.proofs.Terminals.{on_found, on_other}
-use Rattle.eif_parse_expr.specs.Reads.{first, exs_view}
+use Rattle.eif_parse_expr.specs.Readings.{first, exs_view}
 use Rattle.eif_parse_expr.proofs.Steps.{carry, relay, next_here, no_room}
 use Rattle.eif_parse_expr.proofs.call_instructions.on_name.Goals as goal
 

@@ -6,7 +6,7 @@ use Rattle.eif_grammar.specs.Outcomes.{got, refused, Runs, Calls}
 use Rattle.eif_grammar_laws.proofs.InstructionSteps.{instruction_at}
 use Rattle.eif_grammar_laws.proofs.Readers.{called, call_refused}
 use Rattle.eif_grammar_laws.proofs.Taken.{roomy}
-use Rattle.eif_parse_expr.specs.Reads.{first}
+use Rattle.eif_parse_expr.specs.Readings.{first}
 use Rattle.eif_parse_expr.proofs.Steps.{carry, relay, next_here, no_room}
 use Rattle.eif_parse_expr.proofs.call_instructions.on_precursor.Goals as goal
 

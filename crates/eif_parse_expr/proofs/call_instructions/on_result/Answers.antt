@@ -9,7 +9,7 @@ use Rattle.eif_grammar.specs.declared.terminal.Terminal.TheVariants as t
 use Rattle.eif_grammar_laws.proofs.InstructionSteps.{instruction_at}
 use Rattle.eif_grammar_laws.proofs.Taken.{roomy}
 use Rattle.eif_grammar_laws.proofs.Terminals.{on_found, on_other}
-use Rattle.eif_parse_expr.specs.Reads.{first}
+use Rattle.eif_parse_expr.specs.Readings.{first}
 use Rattle.eif_parse_expr.proofs.Steps.{carry, next_here, no_room}
 use Rattle.eif_parse_expr.proofs.call_instructions.on_result.Goals as goal
 

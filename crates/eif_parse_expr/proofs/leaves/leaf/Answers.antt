@@ -5,7 +5,7 @@ use Rattle.eif_grammar.specs.ExpressionRules.{no_primary}
 use Rattle.eif_grammar.specs.Outcomes.{refused}
 use Rattle.eif_grammar_laws.proofs.Readers.{refuses}
 use Rattle.eif_grammar_laws.proofs.ExpressionSteps.{primary_at}
-use Rattle.eif_parse_expr.specs.Reads.{first}
+use Rattle.eif_parse_expr.specs.Readings.{first}
 use Rattle.eif_parse_expr.specs.Subrules.{leaf_value}
 use Rattle.eif_parse_expr.proofs.ExpressionSteps.{leaf_here, no_leaf}
 use Rattle.eif_parse_expr.proofs.leaves.leaf.Goals as goal

@@ -1,7 +1,7 @@
 use Rattle.std.proofs.Common.{◌≡◌, drop, arith}
 use mir.Facts.{to_z-of_z}
 use Rattle.eif_grammar.specs.Literals.{integer_value}
-use Rattle.eif_parse_expr.specs.Reads.{first}
+use Rattle.eif_parse_expr.specs.Readings.{first}
 use Rattle.eif_parse_expr.proofs.Tokens.{seen_here}
 use Rattle.eif_parse_expr.proofs.look.integer_at.Goals as goal
 

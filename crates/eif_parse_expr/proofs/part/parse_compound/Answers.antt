@@ -12,8 +12,8 @@ use Rattle.eif_parse_expr.specs.declared.parsed.PartError.{PartError}
 use Rattle.eif_parse_expr.specs.declared.parsed.PartError.TheVariants.{At, Memory}
 use Rattle.eif_parse_expr.specs.declared.parsed.Parsed.{Parsed}
 use Rattle.eif_parse_expr.specs.InstructionSubrules.{inss_view}
-use Rattle.eif_parse_expr.specs.Reads.{Reads}
-use Rattle.eif_parse_expr.specs.Parts.{ReadsCompound}
+use Rattle.eif_parse_expr.specs.Readings.{Reads}
+use Rattle.eif_parse_expr.specs.ReadParts.{ReadsCompound}
 use Rattle.eif_parse_expr.proofs.part.parse_compound.Goals as goal
 
 of_reading : (room : ℕ) (ts : List Token) (start : ℕ) (r : Result (Parsed (Vec Instr Global)) PartError)

@@ -10,8 +10,8 @@ use Rattle.eif_grammar_laws.proofs.FrontLaws.{longest_expression}
 use Rattle.eif_parse_expr.specs.declared.parsed.PartError.{PartError}
 use Rattle.eif_parse_expr.specs.declared.parsed.PartError.TheVariants.{At, Memory}
 use Rattle.eif_parse_expr.specs.declared.parsed.Parsed.{Parsed}
-use Rattle.eif_parse_expr.specs.Reads.{Reads}
-use Rattle.eif_parse_expr.specs.Parts.{ReadsExpression}
+use Rattle.eif_parse_expr.specs.Readings.{Reads}
+use Rattle.eif_parse_expr.specs.ReadParts.{ReadsExpression}
 use Rattle.eif_parse_expr.proofs.part.parse_expr.Goals as goal
 
 of_reading : (room : ℕ) (ts : List Token) (start : ℕ) (r : Result (Parsed Expr) PartError) → 1 ≤ room

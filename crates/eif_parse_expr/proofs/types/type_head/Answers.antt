@@ -5,7 +5,7 @@ use Rattle.eif_grammar.specs.Reader.{name_of}
 use Rattle.eif_grammar.specs.TypeRules.{with_mark, with_name, no_type, type_start}
 use Rattle.eif_grammar.specs.Outcomes.{got, Runs}
 use Rattle.eif_grammar_laws.proofs.Readers.{refuses, called, ended}
-use Rattle.eif_parse_expr.specs.Reads.{first}
+use Rattle.eif_parse_expr.specs.Readings.{first}
 use Rattle.eif_parse_expr.specs.Subrules.{mark_of, type_head}
 use Rattle.eif_parse_expr.proofs.Steps.{relay_name, next_here, token_here, other_here}
 use Rattle.eif_parse_expr.proofs.TypeSteps.{mark_starts, nothing_starts, type_head_at}

@@ -5,7 +5,7 @@ use Rattle.eif_grammar.specs.Goals.{unmarked, type_goal}
 use Rattle.eif_grammar.specs.Reader.{name_of}
 use Rattle.eif_grammar.specs.Outcomes.{Runs, Calls}
 use Rattle.eif_grammar_laws.proofs.Readers.{by_rule, called}
-use Rattle.eif_parse_expr.specs.Reads.{first}
+use Rattle.eif_parse_expr.specs.Readings.{first}
 use Rattle.eif_parse_expr.specs.Subrules.{headed}
 use Rattle.eif_parse_expr.proofs.Steps.{carry, relay_name, token_here, other_here}
 use Rattle.eif_parse_expr.proofs.types.unmarked_type.Goals as goal

@@ -1,6 +1,6 @@
 use Rattle.std.proofs.Common.{map, string_bytes}
 use Rattle.eifcheck.specs.Form.{form}
-use Rattle.eifcheck.specs.Words.{command_of}
+use Rattle.eifcheck.specs.ReadWords.{command_of}
 use Rattle.eifcheck.proofs.Completeness.{complete}
 use Rattle.eifcheck.proofs.Soundness.{sound_check}
 use Rattle.eifcheck.proofs.command.eifcheck.Goals as goal

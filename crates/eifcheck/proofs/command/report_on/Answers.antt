@@ -1,5 +1,5 @@
 use Rattle.std.proofs.Common.{◌≡◌, ◌++◌, ◌∷◌, [], ap, ◌∙◌}
-use Rattle.eifcheck.specs.Words.{command_of}
+use Rattle.eifcheck.specs.ReadWords.{command_of}
 use Rattle.eifcheck.proofs.Reports.{is_report, file_of}
 use Rattle.eifcheck.proofs.command.report_on.Goals as goal
 

@@ -1,9 +1,6 @@
--- The place of a tree is that of its first token.
+-- The place of an expression is that of its first token.
 use Rattle.eif_base.specs.declared.Place.{Place}
-use Rattle.eif_tree.specs.Tree.{TypeT, type_at, Ex, literal, void_value, current_value, result_value, unqualified, precursor, qualified, creation, test, paren, unary, binary}
-
-abbrev pub type_place : TypeT → Place
-type_place (type_at p q m n ts) = p
+use Rattle.eif_tree.specs.Tree.{Ex, literal, void_value, current_value, result_value, unqualified, precursor, qualified, creation, test, paren, unary, binary}
 
 abbrev pub place_of : Ex → Place
 place_of (literal p x) = p
