@@ -6,8 +6,14 @@ import sys
 import tempfile
 import time
 
-PROGRAM = os.path.join(os.path.dirname(os.path.dirname(os.path.abspath(__file__))), "eifcheck")
+TOP = os.path.dirname(os.path.dirname(os.path.abspath(__file__)))
+PROGRAM = os.path.join(TOP, "crates", "cli", "out", "cli")
 SIZES = [1 << 18, 1 << 19, 1 << 20]
+
+
+def build():
+    """Has the program built from the sources as they are."""
+    subprocess.run([os.path.join(TOP, "eifcheck")], check=False)
 
 
 def seconds(text, runs, stack):
@@ -37,7 +43,7 @@ def seconds(text, runs, stack):
 
 def table(texts, stack):
     """Prints the times on each text, which is made for a size, at a quarter, a half and all of a mebibyte."""
-    subprocess.run([PROGRAM], stderr=subprocess.DEVNULL, check=False)
+    build()
     print("%-24s %10s %10s %10s %8s" % ("text of", "256 KiB", "512 KiB", "1 MiB", "ratio"))
     for label, text in texts.items():
         times = [seconds(text(size), 5, stack) for size in SIZES]
