@@ -10,13 +10,13 @@ use Rattle.std.specs.List.{flat_map}
 use Rattle.eif_par.specs.Pieces.{piece_start, ArePieces}
 use Rattle.eif_par.proofs.Covers.{starts_rise, last_end}
 
-take_next : {X : Type 0} (xs : List X) (n : ℕ) (x : X) → slice_get xs n ≡ Some x →
+pub take_next : {X : Type 0} (xs : List X) (n : ℕ) (x : X) → slice_get xs n ≡ Some x →
     take (suc n) xs ≡ take n xs ++ (x ∷ [])
 take_next [] n x h = absurd (cc)
 take_next (y ∷ ys) zero x h = cc
 take_next (y ∷ ys) (suc n) x h = ap (λ l. y ∷ l) (take_next ys n x h)
 
-take_range : {X : Type 0} (xs : List X) (a b : ℕ) → a ≤ b → take b xs ≡ take a xs ++ slice_range xs a b
+pub take_range : {X : Type 0} (xs : List X) (a b : ℕ) → a ≤ b → take b xs ≡ take a xs ++ slice_range xs a b
 take_range xs a b h = let e : b ≡ a + (b - a) = omega arith in ap (λ n. take n xs) e ∙ take-add a (b - a) xs
 
 -- the first pieces together are the first items

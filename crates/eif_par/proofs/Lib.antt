@@ -1,3 +1,4 @@
 pub mod Assembled
 pub mod Covers
+pub mod Fronts
 pub mod Joins

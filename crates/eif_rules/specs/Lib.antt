@@ -1,2 +1,4 @@
 pub mod FaultForms
+pub mod PlainClasses
+pub mod SystemRules
 pub mod UniverseRules

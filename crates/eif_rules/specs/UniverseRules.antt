@@ -1,7 +1,7 @@
 -- The second phase: the classes of a universe, the types that they write and whom they inherit from. The kernel's classes
 -- are not judged.
 use Rattle.std.specs.Prelude.{◌≡◌, ℕ, ◌+◌, ◌<◌, nat_lt, ◌==◌, Bool, true, false, not, ◌&&◌, if◌then◌else◌, ◌⊎◌, List, [], ◌++◌, length, take, flat_map, Option, Some, None, is_some, is_none, slice_get}
-use Rattle.std.specs.Option.{option_map_or}
+use Rattle.std.specs.Option.{option_map_or, option_and_then}
 use Rattle.std.specs.Bool.{MatchBool}
 use Rattle.std.specs.List.{list_any, enumerate_from}
 use Rattle.std.specs.Str.{bytes_eq}
@@ -175,6 +175,10 @@ given_root_faults given (Some i) = option_map_or root_class_faults (slice_get gi
 -- the number of the root class among the given ones; a class with the name of one of the kernel's is not it
 abbrev pub root_number : List ClassT → Root → Option ℕ
 root_number given root = if is_some (class_number kernel root.class_name) then None else class_number given root.class_name
+
+-- the root class, if it is given
+abbrev pub root_class : List ClassT → Root → Option ClassT
+root_class given root = option_and_then (slice_get given) (root_number given root)
 
 abbrev pub root_faults : List ClassT → Root → List Fault
 root_faults given root =

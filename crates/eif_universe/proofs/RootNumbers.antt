@@ -4,11 +4,11 @@ use Rattle.std.specs.Prelude.{slice_get, is_some, is_none, if◌then◌else◌}
 use Rattle.std.specs.Option.{option_and_then, option_map, option_map_or, option_or}
 use Rattle.eif_base.specs.declared.root.Root.{Root}
 use Rattle.eif_rules.specs.FaultForms.{fault_where}
-use Rattle.eif_rules.specs.UniverseRules.{given_root_faults, no_root_class, root_class_faults, root_faults, root_number}
+use Rattle.eif_rules.specs.UniverseRules.{given_root_faults, no_root_class, root_class, root_class_faults, root_faults, root_number}
 use Rattle.eif_system.specs.Kernel.{kernel, kernel_count}
 use Rattle.eif_system.specs.Universe.{class_number, universe}
 use Rattle.eif_tree.specs.Tree.{ClassT}
-use Rattle.eif_universe.specs.Universes.{HasKernel, given_in, root_class_of}
+use Rattle.eif_universe.specs.Universes.{HasKernel, given_in}
 use Rattle.eif_universe.proofs.FirstNamed.{class_number-append, class_number-within}
 use Rattle.eif_universe.proofs.KernelCount.{length-kernel}
 use Rattle.eif_universe.proofs.NoCircle.{universe_split}
@@ -33,7 +33,7 @@ module _ (given : List ClassT) (root : Root) where
   abbrev joined : Option ℕ → Option ℕ → Option ℕ
   joined a b = option_or a (option_map (λ d. length kernel + d) b)
 
-  no_number : class_number (universe given) n ≡ None → root_class_of given root ≡ None
+  no_number : class_number (universe given) n ≡ None → root_class given root ≡ None
   no_number e = go (class_number kernel n) (class_number given n) (sym (class_number-append kernel given n) ∙ e)
     where
       go : (a b : Option ℕ) → joined a b ≡ None → by_numbers a b ≡ None
@@ -42,7 +42,7 @@ module _ (given : List ClassT) (root : Root) where
       go None None e = refl
 
   kernel_number : (k : ℕ) → class_number (universe given) n ≡ Some k → k < kernel_count →
-      root_class_of given root ≡ None
+      root_class given root ≡ None
   kernel_number k e near =
       go (class_number kernel n) (class_number given n) (sym (class_number-append kernel given n) ∙ e)
     where
@@ -52,7 +52,7 @@ module _ (given : List ClassT) (root : Root) where
       go None None e = refl
 
   given_number : (k : ℕ) → class_number (universe given) n ≡ Some k → kernel_count ≤ k →
-      slice_get (universe given) k ≡ root_class_of given root
+      slice_get (universe given) k ≡ root_class given root
   given_number k e far = go (class_number kernel n) refl (class_number given n)
       (sym (class_number-append kernel given n) ∙ e)
     where
@@ -71,7 +71,7 @@ module _ (given : List ClassT) (root : Root) where
       go None h None e = cc
 
   -- the faults where the root class isn't given
-  pub none_given : root_class_of given root ≡ None → root_faults given root ≡ no_root_class root ∷ []
+  pub none_given : root_class given root ≡ None → root_faults given root ≡ no_root_class root ∷ []
   none_given e = go (class_number kernel n) (class_number given n) refl e
     where
       go : (a b : Option ℕ) → class_number given n ≡ b → by_numbers a b ≡ None →
@@ -89,7 +89,7 @@ module _ (given : List ClassT) (root : Root) where
           within (x ∷ xs) (suc i) w e = within xs i (omega arith) e
 
   -- the faults where it is
-  pub one_given : (c : ClassT) → Some c ≡ root_class_of given root → root_faults given root ≡ root_class_faults c
+  pub one_given : (c : ClassT) → Some c ≡ root_class given root → root_faults given root ≡ root_class_faults c
   one_given c e = go (root_number given root) e
     where
       go : (r : Option ℕ) → Some c ≡ option_and_then (slice_get given) r →
@@ -104,15 +104,15 @@ module _ (u : List ClassT) (root : Root) (h : HasKernel u) where
       class_number (universe (given_in u)) root.class_name ≡ o
   as_split o e = ap (λ (v : List ClassT). class_number v root.class_name) (universe_split u h) ∙ e
 
-  pub root_unknown : class_number u root.class_name ≡ None → root_class_of (given_in u) root ≡ None
+  pub root_unknown : class_number u root.class_name ≡ None → root_class (given_in u) root ≡ None
   root_unknown e = no_number (given_in u) root (as_split None e)
 
   pub root_of_kernel : (k : ℕ) → class_number u root.class_name ≡ Some k → k < kernel_count →
-      root_class_of (given_in u) root ≡ None
+      root_class (given_in u) root ≡ None
   root_of_kernel k e near = kernel_number (given_in u) root k (as_split (Some k) e) near
 
   pub root_at : (k : ℕ) → class_number u root.class_name ≡ Some k → kernel_count ≤ k →
-      slice_get u k ≡ root_class_of (given_in u) root
+      slice_get u k ≡ root_class (given_in u) root
   root_at k e far =
       ap (λ (v : List ClassT). slice_get v k) (sym (universe_split u h))
       ∙ given_number (given_in u) root k (as_split (Some k) e) far

@@ -1,12 +1,11 @@
 -- What the tables of a universe say.
-use Rattle.std.specs.Prelude.{◌≡◌, ℕ, ◌+◌, ◌<◌, ◌^◌, ◌⊎◌, List, Option, Vec, length, map, take, drop, slice_get}
-use Rattle.std.specs.Option.{option_and_then}
+use Rattle.std.specs.Prelude.{◌≡◌, ℕ, ◌+◌, ◌<◌, ◌^◌, ◌⊎◌, List, Vec, length, map, take, drop}
 use Rattle.eif_ancestry.specs.Ancestries.{number_graph, AreAncestries}
 use Rattle.eif_base.specs.Appends.{Has, SomeOf}
 use Rattle.eif_base.specs.declared.class_id.ClassId.{ClassId}
 use Rattle.eif_base.specs.declared.fault.Fault.{Fault}
 use Rattle.eif_base.specs.declared.root.Root.{Root}
-use Rattle.eif_rules.specs.UniverseRules.{ClassBroken, HasManyAncestors, IsOwnAncestor, UniverseBroken, root_number}
+use Rattle.eif_rules.specs.UniverseRules.{ClassBroken, HasManyAncestors, IsOwnAncestor, UniverseBroken}
 use Rattle.eif_system.specs.Graph.{IsOrder}
 use Rattle.eif_system.specs.Inheritance.{graph_of}
 use Rattle.eif_system.specs.Kernel.{kernel, kernel_count}
@@ -26,10 +25,6 @@ InheritanceBroken u d c f = SomeOf c.parents (λ i p f. IsOwnAncestor u d c p f)
 -- the faults of the given classes, without those of the root
 abbrev pub GivenBroken : List ClassT → List ClassT → Fault → Type 0
 GivenBroken u given f = SomeOf given (λ i c f. ClassBroken u (kernel_count + i) c f) f
-
--- the root class, if it is given
-abbrev pub root_class_of : List ClassT → Root → Option ClassT
-root_class_of given root = option_and_then (slice_get given) (root_number given root)
 
 -- the classes of a universe that are given
 abbrev pub given_in : List ClassT → List ClassT
@@ -64,6 +59,7 @@ lists_of lists = map (λ v. numbers_of v.items) lists
 pub record AreTables {Z : Type 0} (u : List ClassT) (numbers : ClassNumbers) (parents : List (Vec ClassId Z))
     (ancestors : List (List ℕ)) (order : List ClassId) : Type 0 where
   pub few : length u < 2 ^ 32
+  pub has_kernel : HasKernel u
   pub numbered : IsNumbering u numbers
   pub parents_are : lists_of parents ≡ graph_of u
   pub ancestors_are : AreAncestries (graph_of u) ancestors

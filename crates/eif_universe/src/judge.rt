@@ -131,7 +131,7 @@ fn push_given_faults(
 }
 
 /// The classes after the kernel's.
-fn given_part(trees: &[ClassTree]) -> &[ClassTree]
+pub(crate) fn given_part(trees: &[ClassTree]) -> &[ClassTree]
     requires { kernel_count ≤ length trees.now }
     ensures { result.now ≡ drop kernel_count trees.now }
 {

@@ -6,7 +6,6 @@ ghost use Rattle.eif_rules.specs.UniverseRules as the;
 ghost use Rattle.eif_system.specs.Kernel.{kernel, kernel_count};
 ghost use Rattle.eif_tree.specs.View.{class_view};
 ghost use Rattle.eif_universe.specs.ClassesView.{classes_view};
-ghost use Rattle.eif_universe.specs.Universes.{root_class_of};
 
 use crate::classes::Classes;
 use crate::kernel::KERNEL_COUNT;
@@ -36,7 +35,7 @@ fn class_at(trees: &[ClassTree], number: u32) -> Option<&ClassTree>
 fn root_class<'u>(classes: &Classes<'u>, root: &Root) -> Option<&'u ClassTree>
     requires { take kernel_count (classes_view classes.now) ≡ kernel }
     ensures { option_map (λ t. class_view t.now) result
-        ≡ root_class_of (drop kernel_count (classes_view classes.now)) root.now }
+        ≡ the.root_class (drop kernel_count (classes_view classes.now)) root.now }
 {
     let number = classes.number_of(&root.class_name)?;
     if number < KERNEL_COUNT {

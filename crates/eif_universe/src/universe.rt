@@ -14,7 +14,7 @@ ghost use Rattle.eif_universe.specs.Universes.{classes_of, numbers_of};
 
 use crate::class_numbers::ClassNumbers;
 use crate::inheritance::reaches;
-use crate::judge::{Refusal, Tables, check};
+use crate::judge::{Refusal, Tables, check, given_part};
 use crate::kernel::KERNEL_COUNT;
 use eif_ancestry::Ancestors;
 use eif_base::{ClassId, FaultList, Name, Root};
@@ -142,6 +142,13 @@ impl Universe {
         ensures { result ≡ length (classes_of self.now) }
     {
         self.trees.len() as u32
+    }
+
+    /// The given classes, in the order of their files.
+    pub fn given(&self) -> &[ClassTree]
+        ensures { map class_view result.now ≡ drop the.kernel_count (classes_of self.now) }
+    {
+        given_part(&self.trees)
     }
 
     /// The class with that name.
