@@ -1,4 +1,4 @@
--- The order of faults is total, and faults that are equal by it have the same line.
+-- The order of faults is total, and faults that are equal by it are one fault.
 use Rattle.std.proofs.Common.{◌≡◌, ℕ, List, [], ◌∷◌, Option, Some, None, refl, sym}
 use Rattle.std.specs.declared.cmp.Ordering.{Ordering}
 use Rattle.std.specs.declared.cmp.Ordering.TheVariants.{Less, Equal, Greater}
@@ -9,8 +9,8 @@ use Rattle.std.proofs.lemmas.Cmp.{nat_cmp_total, nat_list_cmp_total, on_total, t
 use Rattle.eif_base.specs.declared.Fault.{Fault}
 use Rattle.eif_base.specs.declared.Place.{Place}
 use Rattle.eif_base.specs.Codes.{code_text}
-use Rattle.eif_report.specs.Order.{file_name, file_cmp, place_cmp, fault_cmp}
-use Rattle.eif_report.specs.Report.{fault_line}
+use Rattle.eif_report.specs.Order.{file_name, file_cmp, place_cmp, line_cmp, fault_cmp}
+use Rattle.eif_report.proofs.CodeTexts.{code_text-one}
 
 file_cmp_antisymm : (a b : Option (List ℕ)) → file_cmp a b ≡ ordering_reverse (file_cmp b a)
 file_cmp_antisymm None None = refl
@@ -42,13 +42,18 @@ place_cmp_total =
     (then_total (on_total (λ (p : Place). p.offset) nat_cmp_total)
     (then_total (on_total (λ (p : Place). p.line) nat_cmp_total) (on_total (λ (p : Place). p.column) nat_cmp_total)))
 
-pub fault_cmp_total : (names : List (List ℕ)) → IsTotalOrder (fault_cmp names)
-fault_cmp_total names =
-    then_total (on_total (λ (f : Fault). file_name names f.place.file) file_cmp_total)
-    (then_total (on_total (λ (f : Fault). f.place) place_cmp_total)
-    (then_total (on_total (λ (f : Fault). code_text f.code) nat_list_cmp_total)
-    (then_total (on_total (λ (f : Fault). f.class) nat_list_cmp_total)
-    (then_total (on_total (λ (f : Fault). f.feature) nat_list_cmp_total) (on_total (λ (f : Fault). f.about) nat_list_cmp_total)))))
+module _ (names : List (List ℕ)) where
+  pub line_cmp_total : IsTotalOrder (line_cmp names)
+  line_cmp_total =
+      then_total (on_total (λ (f : Fault). file_name names f.place.file) file_cmp_total)
+      (then_total (on_total (λ (f : Fault). f.place) place_cmp_total)
+      (then_total (on_total (λ (f : Fault). code_text f.code) nat_list_cmp_total)
+      (then_total (on_total (λ (f : Fault). f.class) nat_list_cmp_total)
+      (then_total (on_total (λ (f : Fault). f.feature) nat_list_cmp_total)
+      (on_total (λ (f : Fault). f.about) nat_list_cmp_total)))))
+
+  pub fault_cmp_total : IsTotalOrder (fault_cmp names)
+  fault_cmp_total = then_total line_cmp_total (on_total (λ (f : Fault). f.case) nat_cmp_total)
 
 then_equal : (a b : Ordering) → ordering_then a b ≡ Equal → (a ≡ Equal) × (b ≡ Equal)
 then_equal Less b e = absurd (cc)
@@ -58,7 +63,7 @@ then_equal Greater b e = absurd (cc)
 nat_cmp_equal : (a b : ℕ) → nat_cmp a b ≡ Equal → a ≡ b
 nat_cmp_equal a b e = ranked a b Equal (sym e)
 
-slice_cmp_equal : (a b : List ℕ) → slice_cmp nat_cmp a b ≡ Equal → a ≡ b
+pub slice_cmp_equal : (a b : List ℕ) → slice_cmp nat_cmp a b ≡ Equal → a ≡ b
 slice_cmp_equal [] [] e = refl
 slice_cmp_equal [] (y ∷ ys) e = absurd (cc)
 slice_cmp_equal (x ∷ xs) [] e = absurd (cc)
@@ -66,42 +71,32 @@ slice_cmp_equal (x ∷ xs) (y ∷ ys) e =
     let h = then_equal (nat_cmp x y) (slice_cmp nat_cmp xs ys) e in
     cc (nat_cmp_equal x y h.0, slice_cmp_equal xs ys h.1)
 
-place_cmp_equal : (a b : Place) → place_cmp a b ≡ Equal → (a.file ≡ b.file) × (a.line ≡ b.line) × (a.column ≡ b.column)
+place_cmp_equal : (a b : Place) → place_cmp a b ≡ Equal → a ≡ b
 place_cmp_equal a b e =
     let file = then_equal (nat_cmp a.file b.file) _ e in
     let offset = then_equal (nat_cmp a.offset b.offset) _ file.1 in
     let line = then_equal (nat_cmp a.line b.line) _ offset.1 in
-    (nat_cmp_equal _ _ file.0, nat_cmp_equal _ _ line.0, nat_cmp_equal _ _ line.1)
+    λ i. record {
+      file = nat_cmp_equal a.file b.file file.0 i;
+      offset = nat_cmp_equal a.offset b.offset offset.0 i;
+      line = nat_cmp_equal a.line b.line line.0 i;
+      column = nat_cmp_equal a.column b.column line.1 i;
+    }
 
--- what the line of a fault shows
-pub record IsShownAs (a b : Fault) : Type 0 where
-  file : a.place.file ≡ b.place.file
-  line : a.place.line ≡ b.place.line
-  column : a.place.column ≡ b.place.column
-  code : code_text a.code ≡ code_text b.code
-  class : a.class ≡ b.class
-  feature : a.feature ≡ b.feature
-  about : a.about ≡ b.about
-
-shown_as : (names : List (List ℕ)) (a b : Fault) → fault_cmp names a b ≡ Equal → IsShownAs a b
-shown_as names a b e =
-    let file = then_equal (file_cmp (file_name names a.place.file) (file_name names b.place.file)) _ e in
+pub fault_cmp_equal : (names : List (List ℕ)) (a b : Fault) → fault_cmp names a b ≡ Equal → a ≡ b
+fault_cmp_equal names a b e =
+    let case = then_equal (line_cmp names a b) (nat_cmp a.case b.case) e in
+    let file = then_equal (file_cmp (file_name names a.place.file) (file_name names b.place.file)) _ case.0 in
     let place = then_equal (place_cmp a.place b.place) _ file.1 in
     let code = then_equal (slice_cmp nat_cmp (code_text a.code) (code_text b.code)) _ place.1 in
     let class = then_equal (slice_cmp nat_cmp a.class b.class) _ code.1 in
     let feature = then_equal (slice_cmp nat_cmp a.feature b.feature) _ class.1 in
-    let at = place_cmp_equal a.place b.place place.0 in
-    record {
-      file = at.0;
-      line = at.1;
-      column = at.2;
-      code = slice_cmp_equal _ _ code.0;
-      class = slice_cmp_equal _ _ class.0;
-      feature = slice_cmp_equal _ _ feature.0;
-      about = slice_cmp_equal _ _ feature.1;
+    let text = slice_cmp_equal (code_text a.code) (code_text b.code) code.0 in
+    λ i. record {
+      code = code_text-one a.code b.code text i;
+      case = nat_cmp_equal a.case b.case case.1 i;
+      class = slice_cmp_equal a.class b.class class.0 i;
+      feature = slice_cmp_equal a.feature b.feature feature.0 i;
+      place = place_cmp_equal a.place b.place place.0 i;
+      about = slice_cmp_equal a.about b.about feature.1 i;
     }
-
-pub equal_lines : (names : List (List ℕ)) (a b : Fault) → fault_cmp names a b ≡ Equal → fault_line names a ≡ fault_line names b
-equal_lines names a b e =
-    let s = shown_as names a b e in
-    rw (s.code, s.class, s.feature, s.file, s.line, s.column, s.about)

@@ -1,7 +1,8 @@
 ghost use Rattle.std.specs.Prelude.{◌≡◌};
 ghost use Rattle.std.specs.Option.{option_map};
+ghost use Rattle.eif_base.specs.Appends.{In};
 ghost use Rattle.eif_base.specs.FileLists.{names_of};
-ghost use Rattle.eif_report.specs.Order.{file_name, file_cmp, place_cmp, fault_cmp, In, Lists};
+ghost use Rattle.eif_report.specs.Order.{file_name, file_cmp, place_cmp, line_cmp, fault_cmp, Lists};
 
 use eif_base::{Fault, FaultList, FileList, Place};
 use std::cmp::Ordering;
@@ -11,13 +12,20 @@ pub fn sort_faults(list: &mut FaultList, files: &FileList)
     ensures { Lists (names_of files.now) list.new (In list.old) }
 {
     list.sort_dedup_by(
-        |a, b| compare(files, a, b).then(a.case.cmp(&b.case)),
+        |a, b| compare(files, a, b),
         |a, b| compare(files, a, b).is_eq(),
     );
 }
 
 fn compare(files: &FileList, a: &Fault, b: &Fault) -> Ordering
     ensures { result ≡ fault_cmp (names_of files.now) a.now b.now }
+{
+    compare_lines(files, a, b).then(a.case.cmp(&b.case))
+}
+
+/// Compares faults by all but their cases.
+pub fn compare_lines(files: &FileList, a: &Fault, b: &Fault) -> Ordering
+    ensures { result ≡ line_cmp (names_of files.now) a.now b.now }
 {
     compare_files(files, a.place.file, b.place.file)
         .then_with(|| compare_places(a.place, b.place))
@@ -28,7 +36,8 @@ fn compare(files: &FileList, a: &Fault, b: &Fault) -> Ordering
 }
 
 fn compare_files(files: &FileList, a: u32, b: u32) -> Ordering
-    ensures { result ≡ file_cmp (file_name (names_of files.now) a) (file_name (names_of files.now) b) }
+    ensures { result
+        ≡ file_cmp (file_name (names_of files.now) a) (file_name (names_of files.now) b) }
 {
     match (name_of(files, a), name_of(files, b)) {
         (None, None) => Ordering::Equal,

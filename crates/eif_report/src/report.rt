@@ -1,19 +1,31 @@
-ghost use Rattle.std.specs.Prelude.{◌≡◌, [], ◌++◌, IfOk, OnOk, decimal, slice_get, unwrap_or};
+ghost use Rattle.std.specs.Prelude.{◌≡◌, ◌++◌, false, length, IfOk, OnOk};
+ghost use Rattle.std.specs.Option.{option_map_or};
+ghost use Rattle.std.specs.Ordering.{is_eq};
 ghost use Rattle.eif_base.specs.FileLists.{names_of};
 ghost use Rattle.eif_report.specs.OneReport.{OneReport};
-ghost use Rattle.eif_report.specs.Report.{name_or_dash, place_text, fault_line, fault_lines, faults_text, yes_text, verdict_text};
+ghost use Rattle.eif_report.specs.Order.{line_cmp};
+ghost use Rattle.eif_report.specs.Report.{fault_lines, with_line, count_lines, faults_text, yes_text, verdict_text};
 
+use crate::codes::push_code_lines;
+use crate::form::ReportForm;
+use crate::line::{push_fault_line, push_number};
+use crate::order::compare_lines;
 use crate::verdict::Verdict;
-use eif_base::{Fault, FaultList, FileList, Memory, NO_FILE, Name, Place};
+use eif_base::{Fault, FaultList, FileList, Memory};
 use std::alloc::Global;
 
-/// The bytes of a report: a line for each fault and their count, or a line that says yes.
-pub fn report_text(alloc: Global, files: &FileList, verdict: &Verdict) -> Result<Vec<u8>, Memory>
-    ensures { IfOk result (λ v. v.items ≡ verdict_text (names_of files.now) verdict.now) }
+/// The bytes of a report: lines for the faults and their count, or a line that says yes.
+pub fn report_text(
+    alloc: Global,
+    files: &FileList,
+    verdict: &Verdict,
+    form: ReportForm,
+) -> Result<Vec<u8>, Memory>
+    ensures { IfOk result (λ v. v.items ≡ verdict_text form (names_of files.now) verdict.now) }
 {
     match verdict {
         Verdict::Yes(count) => yes_line(alloc, *count),
-        Verdict::Faults(list) => fault_report(alloc, files, list),
+        Verdict::Faults(list) => fault_report(alloc, files, list, form),
     }
 }
 
@@ -27,94 +39,105 @@ fn yes_line(alloc: Global, count: u32) -> Result<Vec<u8>, Memory>
     Ok(text)
 }
 
-fn fault_report(alloc: Global, files: &FileList, list: &FaultList) -> Result<Vec<u8>, Memory>
-    ensures { IfOk result (λ v. v.items ≡ faults_text (names_of files.now) list.now) }
+fn fault_report(
+    alloc: Global,
+    files: &FileList,
+    list: &FaultList,
+    form: ReportForm,
+) -> Result<Vec<u8>, Memory>
+    ensures { IfOk result (λ v. v.items ≡ faults_text form (names_of files.now) list.now) }
 {
-    let mut text = lines_text(alloc, files, list)?;
+    let mut text = Vec::new(alloc);
+    let count = push_fault_lines(alloc, &mut text, files, list, form)?;
+    push_count_lines(alloc, &mut text, list, form)?;
     text.extend_from_slice(b"no ")?;
-    push_number(alloc, &mut text, list.count())?;
+    push_number(alloc, &mut text, count)?;
     text.extend_from_slice(b" faults\n")?;
     Ok(text)
 }
 
-fn lines_text(alloc: Global, files: &FileList, list: &FaultList) -> Result<Vec<u8>, Memory>
-    ensures { IfOk result (λ v. v.items ≡ fault_lines (names_of files.now) list.now) }
+/// Adds the lines of the faults, and tells how many there are.
+fn push_fault_lines(
+    alloc: Global,
+    text: &mut Vec<u8>,
+    files: &FileList,
+    list: &FaultList,
+    form: ReportForm,
+) -> Result<usize, Memory>
+    ensures lines { OnOk result (text.new.items
+        ≡ text.old.items ++ fault_lines form (names_of files.now) list.now) }
+    ensures count { IfOk result (λ count.
+        count ≡ length (with_line form (names_of files.now) list.now)) }
 {
-    let mut text = Vec::new(alloc);
+    match form {
+        ReportForm::One => push_lines_once(alloc, text, files, list),
+        ReportForm::Two => {
+            push_each_line(alloc, text, files, list)?;
+            Ok(list.count())
+        }
+    }
+}
+
+/// Adds a line for each fault that differs from the one before it in more than the case.
+fn push_lines_once(
+    alloc: Global,
+    text: &mut Vec<u8>,
+    files: &FileList,
+    list: &FaultList,
+) -> Result<usize, Memory>
+    ensures lines { OnOk result (text.new.items
+        ≡ text.old.items ++ fault_lines ReportForm.One (names_of files.now) list.now) }
+    ensures count { IfOk result (λ count.
+        count ≡ length (with_line ReportForm.One (names_of files.now) list.now)) }
+{
+    let mut count = 0;
+    let mut last = None;
     'lines: for fault in list.iter() {
-        push_line(alloc, &mut text, files, fault)?;
+        if !is_repeat(files, last, fault) {
+            push_fault_line(alloc, text, files, fault, ReportForm::One)?;
+            count += 1;
+        }
+        last = Some(fault);
     }
-    Ok(text)
+    Ok(count)
 }
 
-fn push_line(
+/// Whether the fault differs from the last one at most in the case.
+fn is_repeat(files: &FileList, last: Option<&Fault>, fault: &Fault) -> bool
+    ensures { result ≡ option_map_or (λ l. is_eq (line_cmp (names_of files.now) l.now fault.now))
+        last.entry false }
+{
+    last.is_some_and(|last| compare_lines(files, last, fault).is_eq())
+}
+
+fn push_each_line(
     alloc: Global,
     text: &mut Vec<u8>,
     files: &FileList,
-    fault: &Fault,
+    list: &FaultList,
 ) -> Result<(), Memory>
-    ensures { OnOk result (text.new.items ≡ text.old.items ++ fault_line (names_of files.now) fault.now) }
+    ensures { OnOk result (text.new.items
+        ≡ text.old.items ++ fault_lines ReportForm.Two (names_of files.now) list.now) }
 {
-    text.extend_from_slice(fault.code.text())?;
-    text.push(b' ')?;
-    push_name(text, &fault.class)?;
-    text.push(b' ')?;
-    push_name(text, &fault.feature)?;
-    text.push(b' ')?;
-    push_place(alloc, text, files, fault.place)?;
-    text.push(b' ')?;
-    push_name(text, &fault.about)?;
-    text.push(b'\n')?;
-    Ok(())
-}
-
-fn push_name(text: &mut Vec<u8>, name: &Name) -> Result<(), Memory>
-    ensures { OnOk result (text.new.items ≡ text.old.items ++ name_or_dash name.now) }
-{
-    if name.text().is_empty() {
-        text.push(b'-')?;
-    } else {
-        text.extend_from_slice(name.text())?;
+    'faults: for fault in list.iter() {
+        push_fault_line(alloc, text, files, fault, ReportForm::Two)?;
     }
     Ok(())
 }
 
-fn push_place(
+/// In form 2 adds a line for each code that occurs.
+fn push_count_lines(
     alloc: Global,
     text: &mut Vec<u8>,
-    files: &FileList,
-    place: Place,
+    list: &FaultList,
+    form: ReportForm,
 ) -> Result<(), Memory>
-    ensures { OnOk result (text.new.items ≡ text.old.items ++ place_text (names_of files.now) place) }
+    ensures { OnOk result (text.new.items ≡ text.old.items ++ count_lines form list.now) }
 {
-    if place.file == NO_FILE {
-        text.extend_from_slice(b"-:0:0")?;
-        return Ok(());
+    match form {
+        ReportForm::One => Ok(()),
+        ReportForm::Two => push_code_lines(alloc, text, list),
     }
-    push_file_name(text, files, place.file)?;
-    text.push(b':')?;
-    push_number(alloc, text, place.line as usize)?;
-    text.push(b':')?;
-    push_number(alloc, text, place.column as usize)?;
-    Ok(())
-}
-
-/// Adds the name of a file, or nothing where no file has that number.
-fn push_file_name(text: &mut Vec<u8>, files: &FileList, file: u32) -> Result<(), Memory>
-    ensures { OnOk result (text.new.items ≡ text.old.items ++ unwrap_or (slice_get (names_of files.now) file) []) }
-{
-    if file < files.count() {
-        text.extend_from_slice(files.name(file).as_bytes())?;
-    }
-    Ok(())
-}
-
-fn push_number(alloc: Global, text: &mut Vec<u8>, number: usize) -> Result<(), Memory>
-    ensures { OnOk result (text.new.items ≡ text.old.items ++ decimal number) }
-{
-    let digits = format!(in alloc; "{number}")?;
-    text.extend_from_slice(digits.as_bytes())?;
-    Ok(())
 }
 
 /// Two reports of the same faults are the same bytes.

@@ -1,3 +1,4 @@
+use crate::form::ReportForm;
 use crate::order::sort_faults;
 use crate::report::report_text;
 use crate::verdict::Verdict;
@@ -19,7 +20,7 @@ struct Row {
 
 fn files(alloc: Global) -> Result<FileList, Memory> {
     let mut files = FileList::new(alloc);
-    for name in ["b.e", "a.e", "a.e", "é.e"] {
+    for name in ["b.e", "a.e", "a.e", "é.e", "app.e"] {
         if files.count() < NO_FILE {
             files.push(name, Vec::new(alloc))?;
         }
@@ -64,28 +65,47 @@ fn row_at(code: Code, case: u8, names: [&'static str; 3], at: [u32; 4]) -> Row {
 #[test]
 fn writes_yes(rt: HostRuntime) -> Result<(), Fail> {
     let files = files(rt.alloc())?;
-    for (count, expected) in [(1, "yes 1 classes\n"), (300, "yes 300 classes\n")] {
-        let text = report_text(rt.alloc(), &files, &Verdict::Yes(count))?;
+    for (count, form, expected) in [
+        (1, ReportForm::One, "yes 1 classes\n"),
+        (300, ReportForm::Two, "yes 300 classes\n"),
+    ] {
+        let text = report_text(rt.alloc(), &files, &Verdict::Yes(count), form)?;
         assert!(rt; text.as_slice() == expected.as_bytes(), "{expected}");
     }
     Ok(())
 }
 
-/// What the report of these faults writes.
-fn reported(rt: &impl Abort, alloc: Global, rows: &[Row]) -> Result<Vec<u8>, Memory> {
+/// The report of these faults is these lines.
+fn assert_reported(
+    rt: &impl Abort,
+    alloc: Global,
+    form: ReportForm,
+    rows: &[Row],
+    expected: &str,
+) -> Result<(), Memory> {
     let files = files(alloc)?;
     let mut list = faults(alloc, rows)?;
     sort_faults(&mut list, &files);
-    report_text(alloc, &files, &Verdict::Faults(list))
+    let text = report_text(alloc, &files, &Verdict::Faults(list), form)?;
+    assert!(rt; text.as_slice() == expected.as_bytes(), "{expected}");
+    Ok(())
 }
 
 #[test]
 fn writes_no_file(rt: HostRuntime) -> Result<(), Fail> {
-    let text = reported(&rt, rt.alloc(), &[])?;
-    assert!(rt; text.as_slice() == "no 0 faults\n".as_bytes());
     let rows = [row_at(Code::Vsrt, 1, ["nosuch", "", "nosuch"], [NO_FILE, 0, 0, 0])];
-    let text = reported(&rt, rt.alloc(), &rows)?;
-    assert!(rt; text.as_slice() == "VSRT nosuch - -:0:0 nosuch\nno 1 faults\n".as_bytes());
+    let one = "VSRT nosuch - -:0:0 nosuch\nno 1 faults\n";
+    assert_reported(&rt, rt.alloc(), ReportForm::One, &rows, one)?;
+    let two = "VSRT.1 nosuch - -:0:0 nosuch\nVSRT 1\nno 1 faults\n";
+    assert_reported(&rt, rt.alloc(), ReportForm::Two, &rows, two)?;
+    Ok(())
+}
+
+#[test]
+fn writes_no_fault(rt: HostRuntime) -> Result<(), Fail> {
+    for form in [ReportForm::One, ReportForm::Two] {
+        assert_reported(&rt, rt.alloc(), form, &[], "no 0 faults\n")?;
+    }
     Ok(())
 }
 
@@ -100,10 +120,25 @@ fn sorts_by_file_name_first(rt: HostRuntime) -> Result<(), Fail> {
         row_at(Code::Vsrt, 1, ["nosuch", "", "nosuch"], [NO_FILE, 0, 0, 0]),
         row_at(Code::Veen, 1, ["c1", "f", "z"], [1, 9, 2, 3]),
     ];
-    let text = reported(&rt, rt.alloc(), &rows)?;
-    let expected =
-        "VSRT nosuch - -:0:0 nosuch\nVEEN c1 f a.e:2:3 z\nXOUT - - a.e:2:3 agent\nVEEN c1 f a.e:2:4 a\nVEEN c1 f a.e:1:1 y\nVEEN c1 f b.e:1:6 x\nno 6 faults\n";
-    assert!(rt; text.as_slice() == expected.as_bytes());
+    let one = "VSRT nosuch - -:0:0 nosuch\n\
+        VEEN c1 f a.e:2:3 z\n\
+        XOUT - - a.e:2:3 agent\n\
+        VEEN c1 f a.e:2:4 a\n\
+        VEEN c1 f a.e:1:1 y\n\
+        VEEN c1 f b.e:1:6 x\n\
+        no 6 faults\n";
+    assert_reported(&rt, rt.alloc(), ReportForm::One, &rows, one)?;
+    let two = "VSRT.1 nosuch - -:0:0 nosuch\n\
+        VEEN.1 c1 f a.e:2:3 z\n\
+        XOUT.1 - - a.e:2:3 agent\n\
+        VEEN.1 c1 f a.e:2:4 a\n\
+        VEEN.1 c1 f a.e:1:1 y\n\
+        VEEN.1 c1 f b.e:1:6 x\n\
+        VEEN 4\n\
+        VSRT 1\n\
+        XOUT 1\n\
+        no 6 faults\n";
+    assert_reported(&rt, rt.alloc(), ReportForm::Two, &rows, two)?;
     Ok(())
 }
 
@@ -116,15 +151,18 @@ fn sorts_names_as_bytes(rt: HostRuntime) -> Result<(), Fail> {
         row_at(Code::Vmfn, 1, ["c10", "f", ""], [0, 0, 1, 1]),
         row_at(Code::Vmfn, 1, ["c10", "", "x"], [0, 0, 1, 1]),
     ];
-    let text = reported(&rt, rt.alloc(), &rows)?;
-    let expected =
-        "VMFN c10 - b.e:1:1 x\nVMFN c10 f b.e:1:1 -\nVMFN c10 f b.e:1:1 x\nVMFN c2 f b.e:1:1 x\nVMFN c1 f é.e:1:1 x\nno 5 faults\n";
-    assert!(rt; text.as_slice() == expected.as_bytes());
+    let expected = "VMFN c10 - b.e:1:1 x\n\
+        VMFN c10 f b.e:1:1 -\n\
+        VMFN c10 f b.e:1:1 x\n\
+        VMFN c2 f b.e:1:1 x\n\
+        VMFN c1 f é.e:1:1 x\n\
+        no 5 faults\n";
+    assert_reported(&rt, rt.alloc(), ReportForm::One, &rows, expected)?;
     Ok(())
 }
 
 #[test]
-fn keeps_the_least_case(rt: HostRuntime) -> Result<(), Fail> {
+fn writes_cases_in_form_two(rt: HostRuntime) -> Result<(), Fail> {
     let names = ["c1", "f", "z"];
     let at = [1, 9, 2, 3];
     let rows = [
@@ -132,12 +170,49 @@ fn keeps_the_least_case(rt: HostRuntime) -> Result<(), Fail> {
         row_at(Code::Veen, 1, names, at),
         row_at(Code::Veen, 2, names, at),
     ];
-    let files = files(rt.alloc())?;
-    let mut list = faults(rt.alloc(), &rows)?;
-    sort_faults(&mut list, &files);
-    assert!(rt; list.count() == 1);
-    assert!(rt; list.at(0).case == 1);
-    let text = reported(&rt, rt.alloc(), &rows)?;
-    assert!(rt; text.as_slice() == "VEEN c1 f a.e:2:3 z\nno 1 faults\n".as_bytes());
+    let one = "VEEN c1 f a.e:2:3 z\nno 1 faults\n";
+    assert_reported(&rt, rt.alloc(), ReportForm::One, &rows, one)?;
+    let two = "VEEN.1 c1 f a.e:2:3 z\n\
+        VEEN.2 c1 f a.e:2:3 z\n\
+        VEEN.3 c1 f a.e:2:3 z\n\
+        VEEN 3\n\
+        no 3 faults\n";
+    assert_reported(&rt, rt.alloc(), ReportForm::Two, &rows, two)?;
+    Ok(())
+}
+
+#[test]
+fn counts_codes_in_form_two(rt: HostRuntime) -> Result<(), Fail> {
+    let names = ["b", "", "b"];
+    let at = [0, 6, 1, 7];
+    let rows = [
+        row_at(Code::Xlim, 3, names, at),
+        row_at(Code::Xlim, 1, names, at),
+    ];
+    let expected = "XLIM.1 b - b.e:1:7 b\nXLIM.3 b - b.e:1:7 b\nXLIM 2\nno 2 faults\n";
+    assert_reported(&rt, rt.alloc(), ReportForm::Two, &rows, expected)?;
+    let rows = [
+        row_at(Code::Vuex, 2, ["app", "make", "h"], [4, 65, 1, 66]),
+        row_at(Code::Vgci, 4, ["app", "make", "make"], [4, 49, 1, 50]),
+    ];
+    let expected = "VGCI.4 app make app.e:1:50 make\n\
+        VUEX.2 app make app.e:1:66 h\n\
+        VGCI 1\n\
+        VUEX 1\n\
+        no 2 faults\n";
+    assert_reported(&rt, rt.alloc(), ReportForm::Two, &rows, expected)?;
+    Ok(())
+}
+
+/// Two files have the name a.e.
+#[test]
+fn keeps_lines_of_files_of_one_name(rt: HostRuntime) -> Result<(), Fail> {
+    let names = ["c1", "f", "z"];
+    let rows = [
+        row_at(Code::Veen, 1, names, [2, 9, 2, 3]),
+        row_at(Code::Veen, 1, names, [1, 9, 2, 3]),
+    ];
+    let expected = "VEEN c1 f a.e:2:3 z\nVEEN c1 f a.e:2:3 z\nno 2 faults\n";
+    assert_reported(&rt, rt.alloc(), ReportForm::One, &rows, expected)?;
     Ok(())
 }

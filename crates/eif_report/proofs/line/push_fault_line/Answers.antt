@@ -1,5 +1,5 @@
 use Rattle.std.proofs.Common.{rules, append_assoc}
-use Rattle.eif_report.proofs.report.push_line.Goals as goal
+use Rattle.eif_report.proofs.line.push_fault_line.Goals as goal
 
 pub returns : goal.returns
 returns c = search (rules, append_assoc)
