@@ -1,6 +1,6 @@
 pub mod Bodies
 pub mod Keeps
 pub mod Lawful
-pub mod OneClass
+pub mod RootClass
 pub mod Soundness
 pub mod Tests

@@ -1,12 +1,14 @@
 -- What tests on names and empty lists of faults say.
-use Rattle.std.proofs.Common.{◌≡◌, ℕ, Bool, true, false, List, [], ◌∷◌, ◌++◌, Option, Some, refl, sym, subst, ◌∙◌}
-use Rattle.std.specs.Prelude.{if◌then◌else◌, cond, ◌&&◌, ◌||◌, find, flat_map}
+use Rattle.std.proofs.Common.{◌≡◌, ℕ, Bool, true, false, not, List, [], ◌∷◌, ◌++◌, Option, Some, refl, sym, subst, ◌∙◌}
+use Rattle.std.specs.Prelude.{cond, ◌&&◌, ◌||◌, find, flat_map}
 use Rattle.std.specs.List.{AllByRecursion, list_all, list_any}
 use Rattle.std.specs.Str.{bytes_eq}
 use Rattle.std.proofs.lemmas.Slice.Eq.{bytes_eq-Decides}
 use Rattle.std.proofs.lemmas.List.Folds.{list_any-append}
+use Rattle.eif_base.specs.declared.Fault.{Fault}
 use Rattle.eif_tree.specs.declared.NameAt.{NameAt}
 use Rattle.eif_tree.specs.Members.{has_name}
+use Rattle.eif_rules.specs.FaultForms.{fault_where}
 
 pub same_bytes : (a b : List ℕ) → bytes_eq a b ≡ true → a ≡ b
 same_bytes a b = (bytes_eq-Decides a b).0
@@ -59,9 +61,10 @@ found_has P test (x ∷ xs) y all e = found_cases P (test x) x y (find test xs) 
 
 -- ---- empty lists
 
-pub if_empty : {A : Type 0} (b : Bool) (x : A) → (if b then [] else x ∷ []) ≡ [] → b ≡ true
-if_empty true x h = refl
-if_empty false x h = cc
+-- a test whose breach is not there
+pub passes : (b : Bool) (f : Fault) → fault_where (not b) f ≡ [] → b ≡ true
+passes true f h = refl
+passes false f h = cc
 
 pub append_empty : {A : Type 0} (xs ys : List A) → xs ++ ys ≡ [] → (xs ≡ []) × (ys ≡ [])
 append_empty [] ys h = (refl, h)

@@ -1,9 +1,10 @@
-//! What a check of a system says of its runs.
+//! What the rules say of the runs of a system.
 #![tactic(auto)]
 
 ghost use Rattle.eif_sound.specs.Sound.{Sound};
 
-/// No run of a plain class without faults goes wrong, with whatever bound on the levels of calls.
+/// No run of a system whose classes and root break no rule goes wrong, with whatever bound on the
+/// levels of calls. This version judges plain classes alone, and every other one is a breach.
 pub fn sound()
     ensures { Sound }
 {}

@@ -8,16 +8,16 @@ use Rattle.eif_base.specs.declared.Fault.{Fault}
 use Rattle.eif_tree.specs.declared.NameAt.{NameAt}
 use Rattle.eif_tree.specs.Tree.{unqualified, no_exs, Ins, call, Inss, no_inss, and_ins, GroupT, KindT, routine, DeclT, ClassT}
 use Rattle.eif_tree.specs.Members.{has_name, declarations, declared_names, body_of, called_by, called_in}
-use Rattle.eif_check.specs.Plain.{is_plain_call, has_plain_calls, is_plain_routine, is_plain_declaration}
-use Rattle.eif_check.specs.Faults.{unknown_in, unknown_of}
+use Rattle.eif_rules.specs.PlainClasses.{is_plain_call, has_plain_calls, is_plain_routine, is_plain_declaration}
+use Rattle.eif_rules.specs.SystemRules.{unknown_name, unknown_names}
 use Rattle.eif_meaning.specs.System.{Origin, class_named, declaration_named, origin_of, bind_of, system_of}
-use Rattle.eif_sound.proofs.Tests.{bytes_same, and_left, and_right, finds, found_has, if_empty, append_empty}
+use Rattle.eif_sound.proofs.Tests.{bytes_same, and_left, and_right, finds, found_has, passes, append_empty}
 use Rattle.eif_sound.proofs.Lawful.{IsCall, Fine, AllFine, FineBody, Lawful}
 
 -- a declaration of class c as plain classes have them, whose calls are of declared names
 pub record IsOwn (c : ClassT) (b : DeclT) : Type 0 where
   pub plain : is_plain_declaration b ≡ true
-  pub known : unknown_of c (declared_names c) b ≡ []
+  pub known : unknown_names c (declared_names c) b ≡ []
 
 -- a body of class c, whose name is k, on an object of that class
 pub record Runs (c : ClassT) (k d text : List ℕ) (b : DeclT) : Type 0 where
@@ -25,19 +25,19 @@ pub record Runs (c : ClassT) (k d text : List ℕ) (b : DeclT) : Type 0 where
   pub of_text : k ≡ text
   pub own : IsOwn c b
 
-pub all_own : (c : ClassT) (bs : List DeclT) → list_all is_plain_declaration bs ≡ true → AllByRecursion (λ b. unknown_of c (declared_names c) b ≡ []) bs → AllByRecursion (IsOwn c) bs
+pub all_own : (c : ClassT) (bs : List DeclT) → list_all is_plain_declaration bs ≡ true → AllByRecursion (λ b. unknown_names c (declared_names c) b ≡ []) bs → AllByRecursion (IsOwn c) bs
 all_own c [] p h = tt
 all_own c (b ∷ bs) p h = (record { plain = and_left (is_plain_declaration b) _ p; known = h.0 }, all_own c bs (and_right (is_plain_declaration b) _ p) h.1)
 
 -- bodies of plain calls of declared names are fine
 module _ (c : ClassT) (b : DeclT) (known : List ℕ → Type 0) (knows : (x : List ℕ) → has_name (declared_names c) x ≡ true → known x) where
   abbrev unknown : List NameAt → List Fault
-  unknown ns = flat_map (unknown_in c (declared_names c) b) ns
+  unknown ns = flat_map (unknown_name c (declared_names c) b) ns
 
   call_fine : (i : Ins) (more : List NameAt) → is_plain_call i ≡ true → unknown (called_by i ++ more) ≡ [] → Fine known i × (unknown more ≡ [])
   call_fine (call (unqualified p x no_exs)) more plain none =
-      let e = append_empty (unknown_in c (declared_names c) b (record { place = p; name = x })) (unknown more) none in
-      (knows x (if_empty (has_name (declared_names c) x) _ e.0), e.1)
+      let e = append_empty (unknown_name c (declared_names c) b (record { place = p; name = x })) (unknown more) none in
+      (knows x (passes (has_name (declared_names c) x) _ e.0), e.1)
   call_fine _ more plain none = cc
 
   calls_fine : (is : Inss) → has_plain_calls is ≡ true → unknown (called_in is) ≡ [] → AllFine known is
