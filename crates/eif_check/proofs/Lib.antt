@@ -1,3 +1,7 @@
 pub mod Calls
+pub mod Crossing
 pub mod Forms
-pub mod OneList
+pub mod OneReading
+pub mod Phases
+pub mod Readings
+pub mod RootClass

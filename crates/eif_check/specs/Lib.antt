@@ -1,6 +1,8 @@
-pub mod Faults
 pub mod Limits
 pub mod Mentions
-pub mod OneList
-pub mod Plain
+pub mod OneReading
+pub mod Parsed
+pub mod Systems
+pub mod TextFaults
+pub mod TextReads
 pub mod Verdicts

@@ -1,84 +1,94 @@
-ghost use Rattle.std.specs.Prelude.{◌≡◌, ◌≤◌, length, IfOk};
+ghost use Rattle.std.specs.Prelude.{◌≡◌, ◌≤◌, [], List, length, map, IfOk};
+ghost use Rattle.eif_base.specs.Appends.{Has};
 ghost use Rattle.eif_base.specs.FileLists.{texts_of};
+ghost use Rattle.eif_rules.specs.FaultForms.{IsNone};
+ghost use Rattle.eif_rules.specs.SystemRules.{BodiesBroken, SystemBroken};
+ghost use Rattle.eif_rules.specs.UniverseRules.{UniverseBroken};
+ghost use Rattle.eif_tree.specs.Tree.{ClassT};
 ghost use Rattle.eif_tree.specs.View.{class_view};
-ghost use Rattle.eif_check.specs.Faults as broken;
 ghost use Rattle.eif_check.specs.Limits.{AreShort};
+ghost use Rattle.eif_check.specs.Systems.{AreClasses, Broken};
 ghost use Rattle.eif_check.specs.Verdicts.{IsVerdict};
 
-use crate::faults::{class_faults, no_name, only, text_fault, yet_fault};
-use crate::plain::is_plain;
-use eif_base::limits::MOST_BYTES;
-use eif_base::{Code, Fault, FaultList, FileList, Gate, Memory, Place, Root};
-use eif_lex::{LexError, Tokens, lex};
-use eif_parse::{ParseError, parse_class};
+use crate::faults::{push_no_root_procedure, push_not_yet, push_unknown_names};
+use crate::texts::{Parsed, parse_texts};
+use eif_base::limits::{MOST_FILES, MOST_WORKERS};
+use eif_base::{FaultList, FileList, Gate, Memory, Root};
 use eif_report::{Verdict, sort_faults};
 use eif_tree::ClassTree;
+use eif_universe::{Universe, UniverseError, kernel_trees};
 use std::alloc::Global;
 use std::thread::Threads;
 
-fn stuck_fault(alloc: Global, place: Place) -> Result<Fault, Memory>
-    ensures { IfOk result (λ f. f ≡ broken.stuck_fault place) }
+/// The faults of classes that break no rule of the universe.
+fn bodies_faults(alloc: Global, given: &[ClassTree], root: &Root) -> Result<FaultList, Memory>
+    requires { IsNone (UniverseBroken (map class_view given.now) root.now) }
+    ensures { IfOk result (λ l. Has l (BodiesBroken (map class_view given.now) root.now)) }
 {
-    text_fault(alloc, Code::Xlex, place, no_name(alloc)?)
+    let mut faults = FaultList::new(alloc);
+    push_not_yet(alloc, &mut faults, given)?;
+    if !faults.is_empty() {
+        return Ok(faults);
+    }
+    push_no_root_procedure(alloc, &mut faults, given, root)?;
+    if !faults.is_empty() {
+        return Ok(faults);
+    }
+    push_unknown_names(alloc, &mut faults, given)?;
+    Ok(faults)
 }
 
-fn syntax_fault(alloc: Global, place: Place) -> Result<Fault, Memory>
-    ensures { IfOk result (λ f. f ≡ broken.syntax_fault place) }
+/// The faults of a system of these classes.
+fn system_faults(alloc: Global, given: Vec<ClassTree>, root: &Root) -> Result<FaultList, Memory>
+    requires { length given.items ≤ MOST_FILES }
+    ensures { IfOk result (λ l. Has l (SystemBroken (map class_view given.items) root.now)) }
 {
-    text_fault(alloc, Code::Xsyn, place, no_name(alloc)?)
-}
-
-/// The faults of a class text.
-fn tree_faults(alloc: Global, tree: &ClassTree, root: &Root) -> Result<FaultList, Memory>
-    ensures { IfOk result (λ l. l ≡ broken.tree_faults root.now (class_view tree.now)) }
-{
-    if is_plain(alloc, tree)? {
-        class_faults(alloc, root, tree)
-    } else {
-        only(alloc, yet_fault(alloc, tree)?)
+    let kernel = kernel_trees(alloc)?;
+    match Universe::build(alloc, kernel, given, root) {
+        Ok(universe) => bodies_faults(alloc, universe.given(), root),
+        Err(UniverseError::Faults { faults, .. }) => Ok(faults),
+        Err(UniverseError::Memory { .. }) => Err(Memory),
     }
 }
 
-fn token_faults(alloc: Global, tokens: &Tokens<'_>, root: &Root) -> Result<FaultList, Memory>
-    ensures { IfOk result (λ l. broken.ListFaults tokens.now root.now l) }
-{
-    match parse_class(alloc, tokens) {
-        Ok(tree) => tree_faults(alloc, &tree, root),
-        Err(ParseError::Left(place, about)) => {
-            only(alloc, text_fault(alloc, Code::Xout, place, about)?)
-        }
-        Err(ParseError::Syntax(place)) => only(alloc, syntax_fault(alloc, place)?),
-        Err(ParseError::Memory) => Err(Memory),
-    }
-}
-
-/// The faults of a text, which is that of the file with that number.
-fn text_faults(alloc: Global, file: u32, text: &[u8], root: &Root) -> Result<FaultList, Memory>
-    requires { length text.now ≤ MOST_BYTES }
-    ensures { IfOk result (λ l. broken.FaultsOf file text.now root.now l) }
-{
-    match lex(alloc, file, text) {
-        Ok(tokens) => token_faults(alloc, &tokens, root),
-        Err(LexError::At(place)) => only(alloc, stuck_fault(alloc, place)?),
-        Err(LexError::Memory) => Err(Memory),
-    }
-}
-
-/// The verdict on the system of these files, of which this version takes one, with that root.
-pub fn check_system<R: Threads + Sync, G: Gate + Sync>(
-    _rt: &R,
+/// The faults of the system of these files, those of the first phase that has any.
+fn faults_of<R: Threads + Sync, G: Gate + Sync>(
+    rt: &R,
     alloc: Global,
     files: &FileList,
     root: &Root,
     workers: u32,
-    _gate: &G,
+    gate: &G,
+) -> Result<FaultList, Memory>
+    requires workers { (1 ≤ workers) × (workers ≤ MOST_WORKERS) }
+    requires few { length files.now ≤ MOST_FILES }
+    requires short { AreShort (texts_of files.now) }
+    ensures faults { IfOk result (λ l. Has l (Broken (texts_of files.now) root.now)) }
+    ensures classes { IfOk result (λ l. l ≡ []
+        → (given : List ClassT) × AreClasses (texts_of files.now) given) }
+{
+    let Parsed { trees, faults } = parse_texts(rt, alloc, files, workers, gate)?;
+    if !faults.is_empty() {
+        return Ok(faults);
+    }
+    system_faults(alloc, trees, root)
+}
+
+/// The verdict on the system of these files with that root, the same on any number of workers.
+pub fn check_system<R: Threads + Sync, G: Gate + Sync>(
+    rt: &R,
+    alloc: Global,
+    files: &FileList,
+    root: &Root,
+    workers: u32,
+    gate: &G,
 ) -> Result<Verdict, Memory>
-    requires workers { (1 ≤ workers) × (workers ≤ 64) }
-    requires one_file { length files.now ≡ 1 }
+    requires workers { (1 ≤ workers) × (workers ≤ MOST_WORKERS) }
+    requires few { length files.now ≤ MOST_FILES }
     requires short { AreShort (texts_of files.now) }
     ensures { IfOk result (IsVerdict files.now root.now) }
 {
-    let mut faults = text_faults(alloc, 0, files.text(0), root)?;
+    let mut faults = faults_of(rt, alloc, files, root, workers, gate)?;
     if faults.is_empty() {
         return Ok(Verdict::Yes(files.count()));
     }

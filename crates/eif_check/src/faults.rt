@@ -1,93 +1,124 @@
-//! The faults of a class text.
+//! The faults of given classes behind the rules of the universe, rule by rule.
 
-ghost use Rattle.std.specs.Prelude.{◌≡◌, [], ◌∷◌, ◌++◌, map, flat_map, IfOk, OnOk};
+ghost use Rattle.std.specs.Prelude.{◌≡◌, [], ◌++◌, find, flat_map, map, IfOk, OnOk};
+ghost use Rattle.std.specs.Option.{option_map};
+ghost use Rattle.std.specs.Str.{bytes_eq};
+ghost use Rattle.eif_rules.specs.FaultForms.{IsNone, fault_at, fault_in};
+ghost use Rattle.eif_rules.specs.SystemRules as rules;
+ghost use Rattle.eif_rules.specs.UniverseRules.{UniverseBroken};
+ghost use Rattle.eif_system.specs.WrittenTypes as written;
+ghost use Rattle.eif_tree.specs.Members as parts;
 ghost use Rattle.eif_tree.specs.View.{class_view, decl_view};
 ghost use Rattle.eif_check.specs.Mentions.{name_at};
-ghost use Rattle.eif_check.specs.Faults as broken;
 
 use crate::mention::{Mention, creator_names, declarations, declared_names, has_name, push_called};
-use eif_base::{Code, Fault, FaultList, Memory, NO_FILE, Name, Place, Root};
+use crate::plain::is_plain;
+use eif_base::{Code, Fault, FaultList, Memory, Name, Root};
 use eif_tree::{ClassTree, FeatureDecl, NameAt};
 use std::alloc::Global;
 
 /// The name of what has none.
-pub fn no_name(alloc: Global) -> Result<Name, Memory>
+fn no_name(alloc: Global) -> Result<Name, Memory>
     ensures { IfOk result (λ n. n ≡ []) }
 {
     Name::from_bytes(alloc, b"")
 }
 
-/// A fault that is told of no class and no feature.
-pub fn text_fault(alloc: Global, code: Code, place: Place, about: Name) -> Result<Fault, Memory>
-    ensures { IfOk result (λ f. f ≡ broken.text_fault code place about) }
-{
-    Ok(Fault {
-        code,
-        case: 1,
-        class: no_name(alloc)?,
-        feature: no_name(alloc)?,
-        place,
-        about,
-    })
-}
-
-/// A list of one fault.
-pub fn only(alloc: Global, fault: Fault) -> Result<FaultList, Memory>
-    ensures { IfOk result (λ l. l ≡ fault ∷ []) }
-{
-    let mut list = FaultList::new(alloc);
-    list.push(fault)?;
-    Ok(list)
-}
-
 /// The fault of a class that is not plain.
-pub fn yet_fault(alloc: Global, tree: &ClassTree) -> Result<Fault, Memory>
-    ensures { IfOk result (λ f. f ≡ broken.yet_fault (class_view tree.now)) }
+fn not_yet_fault(alloc: Global, class: &ClassTree) -> Result<Fault, Memory>
+    ensures { IfOk result (λ f. let c = class_view class.now in f ≡ fault_at c Code.Xyet 1 c.place []) }
 {
     Ok(Fault {
         code: Code::Xyet,
         case: 1,
-        class: tree.name.copy(alloc)?,
+        class: class.name.copy(alloc)?,
         feature: no_name(alloc)?,
-        place: tree.place,
+        place: class.place,
         about: no_name(alloc)?,
     })
 }
 
-fn root_class_fault(alloc: Global, root: &Root) -> Result<Fault, Memory>
-    ensures { IfOk result (λ f. f ≡ broken.root_class_fault root.now) }
+/// Adds the faults of the classes that are not plain.
+pub(crate) fn push_not_yet(
+    alloc: Global,
+    out: &mut FaultList,
+    given: &[ClassTree],
+) -> Result<(), Memory>
+    ensures { OnOk result (out.new
+        ≡ out.old ++ flat_map rules.not_yet (map class_view given.now)) }
 {
-    Ok(Fault {
-        code: Code::Vsrt,
-        case: 1,
-        class: root.class_name.copy(alloc)?,
-        feature: no_name(alloc)?,
-        place: Place {
-            file: NO_FILE,
-            offset: 0,
-            line: 0,
-            column: 0,
-        },
-        about: root.class_name.copy(alloc)?,
-    })
+    'classes: for class in given {
+        if !is_plain(alloc, class)? {
+            out.push(not_yet_fault(alloc, class)?)?;
+        }
+    }
+    Ok(())
 }
 
-fn root_procedure_fault(alloc: Global, root: &Root, tree: &ClassTree) -> Result<Fault, Memory>
-    ensures { IfOk result (λ f. f ≡ broken.root_procedure_fault root.now (class_view tree.now)) }
+fn root_procedure_fault(alloc: Global, class: &ClassTree, root: &Root) -> Result<Fault, Memory>
+    ensures { IfOk result (λ f. let c = class_view class.now in
+        f ≡ fault_at c Code.Vsrp 1 c.place root.now.procedure_name) }
 {
     Ok(Fault {
         code: Code::Vsrp,
         case: 1,
-        class: tree.name.copy(alloc)?,
+        class: class.name.copy(alloc)?,
         feature: no_name(alloc)?,
-        place: tree.place,
+        place: class.place,
         about: root.procedure_name.copy(alloc)?,
     })
 }
 
+/// Adds the fault of the root class `class`, if the root procedure is no creator of it.
+fn push_no_creator(
+    alloc: Global,
+    out: &mut FaultList,
+    class: &ClassTree,
+    root: &Root,
+) -> Result<(), Memory>
+    ensures { OnOk result (out.new
+        ≡ out.old ++ rules.no_root_procedure root.now (class_view class.now)) }
+{
+    let creators = creator_names(alloc, class)?;
+    if !has_name(&creators, &root.procedure_name) {
+        out.push(root_procedure_fault(alloc, class, root)?)?;
+    }
+    Ok(())
+}
+
+/// The first of the classes with that name.
+fn class_named<'g>(given: &'g [ClassTree], name: &Name) -> Option<&'g ClassTree>
+    ensures { option_map (λ t. class_view t.now) result
+        ≡ find (λ c. bytes_eq c.name name.now) (map class_view given.now) }
+{
+    'classes: for class in given {
+        if class.name == *name {
+            return Some(class);
+        }
+    }
+    None
+}
+
+/// Adds the fault of the root procedure, if it is no creator of the root class.
+pub(crate) fn push_no_root_procedure(
+    alloc: Global,
+    out: &mut FaultList,
+    given: &[ClassTree],
+    root: &Root,
+) -> Result<(), Memory>
+    requires { IsNone (UniverseBroken (map class_view given.now) root.now) }
+    ensures { OnOk result (out.new
+        ≡ out.old ++ rules.root_procedure_faults (map class_view given.now) root.now) }
+{
+    if let Some(class) = class_named(given, &root.class_name) {
+        push_no_creator(alloc, out, class, root)?;
+    }
+    Ok(())
+}
+
 /// The name of a declaration that faults in it are told of.
 fn feature_name(alloc: Global, names: &[NameAt]) -> Result<Name, Memory>
-    ensures { IfOk result (λ n. n ≡ broken.feature_name names.now) }
+    ensures { IfOk result (λ n. n ≡ written.feature_name names.now) }
 {
     match names.first() {
         Some(first) => first.name.copy(alloc),
@@ -97,16 +128,18 @@ fn feature_name(alloc: Global, names: &[NameAt]) -> Result<Name, Memory>
 
 fn unknown_name_fault(
     alloc: Global,
-    tree: &ClassTree,
+    class: &ClassTree,
     decl: &FeatureDecl,
     mention: &Mention<'_>,
 ) -> Result<Fault, Memory>
-    ensures { IfOk result (λ f. f ≡ broken.unknown_name_fault (class_view tree.now) (decl_view decl.now) (name_at mention.now)) }
+    ensures { IfOk result (λ f. let n = name_at mention.now in
+        f ≡ fault_in (class_view class.now) (written.feature_name decl.now.names.items)
+        Code.Veen 1 n.place n.name) }
 {
     Ok(Fault {
         code: Code::Veen,
         case: 1,
-        class: tree.name.copy(alloc)?,
+        class: class.name.copy(alloc)?,
         feature: feature_name(alloc, &decl.names)?,
         place: mention.place,
         about: mention.name.copy(alloc)?,
@@ -117,57 +150,63 @@ fn unknown_name_fault(
 fn push_unknown(
     alloc: Global,
     out: &mut FaultList,
-    tree: &ClassTree,
+    class: &ClassTree,
     decl: &FeatureDecl,
     declared: &[Mention<'_>],
     called: &[Mention<'_>],
 ) -> Result<(), Memory>
-    ensures { OnOk result (out.new ≡ out.old ++ flat_map (broken.unknown_in (class_view tree.now) (map name_at declared.now) (decl_view decl.now)) (map name_at called.now)) }
+    ensures { OnOk result (out.new ≡ out.old
+        ++ flat_map (rules.unknown_name (class_view class.now) (map name_at declared.now)
+        (decl_view decl.now)) (map name_at called.now)) }
 {
     'called: for mention in called {
         if !has_name(declared, mention.name) {
-            out.push(unknown_name_fault(alloc, tree, decl, mention)?)?;
+            out.push(unknown_name_fault(alloc, class, decl, mention)?)?;
         }
     }
     Ok(())
 }
 
+/// Adds the faults of a declaration.
 fn push_unknown_in(
     alloc: Global,
     out: &mut FaultList,
-    tree: &ClassTree,
+    class: &ClassTree,
     decl: &FeatureDecl,
     declared: &[Mention<'_>],
 ) -> Result<(), Memory>
-    ensures { OnOk result (out.new ≡ out.old ++ broken.unknown_of (class_view tree.now) (map name_at declared.now) (decl_view decl.now)) }
+    ensures { OnOk result (out.new ≡ out.old
+        ++ rules.unknown_names (class_view class.now) (map name_at declared.now)
+        (decl_view decl.now)) }
 {
     let mut called = Vec::new(alloc);
     push_called(&mut called, decl)?;
-    push_unknown(alloc, out, tree, decl, declared, &called)
+    push_unknown(alloc, out, class, decl, declared, &called)
 }
 
-fn unknown_name_faults(alloc: Global, tree: &ClassTree) -> Result<FaultList, Memory>
-    ensures { IfOk result (λ l. l ≡ broken.unknown_name_faults (class_view tree.now)) }
+/// Adds the faults of a class.
+fn push_unknown_of(alloc: Global, out: &mut FaultList, class: &ClassTree) -> Result<(), Memory>
+    ensures { OnOk result (out.new ≡ out.old ++ rules.unknown_names_in (class_view class.now)) }
 {
-    let decls = declarations(alloc, tree)?;
+    let decls = declarations(alloc, class)?;
     let declared = declared_names(alloc, &decls)?;
-    let mut out = FaultList::new(alloc);
     'decls: for decl in &decls {
-        push_unknown_in(alloc, &mut out, tree, decl, &declared)?;
+        push_unknown_in(alloc, out, class, decl, &declared)?;
     }
-    Ok(out)
+    Ok(())
 }
 
-/// The breaches of the first rule that has any.
-pub fn class_faults(alloc: Global, root: &Root, tree: &ClassTree) -> Result<FaultList, Memory>
-    ensures { IfOk result (λ l. l ≡ broken.class_faults root.now (class_view tree.now)) }
+/// Adds the faults of the called names that their class does not declare.
+pub(crate) fn push_unknown_names(
+    alloc: Global,
+    out: &mut FaultList,
+    given: &[ClassTree],
+) -> Result<(), Memory>
+    ensures { OnOk result (out.new
+        ≡ out.old ++ flat_map rules.unknown_names_in (map class_view given.now)) }
 {
-    if root.class_name != tree.name {
-        return only(alloc, root_class_fault(alloc, root)?);
+    'classes: for class in given {
+        push_unknown_of(alloc, out, class)?;
     }
-    let creators = creator_names(alloc, tree)?;
-    if !has_name(&creators, &root.procedure_name) {
-        return only(alloc, root_procedure_fault(alloc, root, tree)?);
-    }
-    unknown_name_faults(alloc, tree)
+    Ok(())
 }

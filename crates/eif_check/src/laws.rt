@@ -1,6 +1,8 @@
-ghost use Rattle.eif_check.specs.OneList.{OneList};
+ghost use Rattle.eif_check.specs.OneReading.{OneReading, OneSystem};
 
-/// With one root a text has at most one list of faults.
-pub fn one_list_of_faults()
-    ensures { OneList }
+/// A text is one class, or has one fault, and texts that are classes have no fault. So the faults
+/// of a system are one set.
+pub fn one_reading()
+    ensures text { OneReading }
+    ensures system { OneSystem }
 {}

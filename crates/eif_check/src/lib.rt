@@ -1,4 +1,4 @@
-//! The rules, and the check of a system.
+//! The check of a system: what its texts are, and what is broken in them and in their classes.
 #![tactic(auto)]
 
 mod check;
@@ -6,6 +6,10 @@ mod faults;
 mod laws;
 mod mention;
 mod plain;
+mod texts;
 
 pub use check::check_system;
-pub use laws::one_list_of_faults;
+pub use laws::one_reading;
+
+#[cfg(test)]
+mod tests;

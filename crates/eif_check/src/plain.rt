@@ -5,7 +5,8 @@ ghost use Rattle.std.specs.List.{list_all};
 ghost use Rattle.eif_tree.specs.Members as parts;
 ghost use Rattle.eif_tree.specs.View.{assertion_view, class_view, creators_view, decl_view, exs_from, features_view, inss_from, instr_view, kind_view};
 ghost use Rattle.eif_check.specs.Mentions.{name_at};
-ghost use Rattle.eif_check.specs.Plain as plain;
+ghost use Rattle.eif_rules.specs.PlainClasses as plain;
+ghost use Rattle.eif_rules.specs.UniverseRules.{is_among};
 
 use crate::mention::{
     Mention, client_names, creator_names, declarations, declared_names, has_name, push_called,
@@ -121,20 +122,8 @@ fn are_distinct(names: &[Mention<'_>]) -> bool
     true
 }
 
-fn is_kernel_class(name: &Name) -> bool
-    ensures { result ≡ plain.among plain.kernel_classes name.now }
-{
-    let text = name.text();
-    text == b"any".as_slice()
-        || text == b"integer".as_slice()
-        || text == b"boolean".as_slice()
-        || text == b"character".as_slice()
-        || text == b"string".as_slice()
-        || text == b"array".as_slice()
-}
-
 fn is_kernel_feature(name: &Name) -> bool
-    ensures { result ≡ plain.among plain.kernel_features name.now }
+    ensures { result ≡ is_among plain.kernel_features name.now }
 {
     let text = name.text();
     text == b"default_create".as_slice() || text == b"out".as_slice() || text == b"print".as_slice()
@@ -174,8 +163,7 @@ fn called_names<'t>(alloc: Global, decls: &[&'t FeatureDecl]) -> Result<Vec<Ment
     Ok(out)
 }
 
-/// Whether the declared names differ, the creators are declared, the class has no name of a kernel class, and no
-/// kernel feature is named.
+/// Whether the declared names differ, the creators are declared, and no kernel feature is named.
 fn has_plain_names(
     name: &Name,
     creators: &[Mention<'_>],
@@ -187,7 +175,6 @@ fn has_plain_names(
 {
     are_distinct(declared)
         && are_declared(creators, declared)
-        && !is_kernel_class(name)
         && !is_kernel_feature(name)
         && names_no_kernel_feature(creators)
         && names_no_kernel_feature(declared)

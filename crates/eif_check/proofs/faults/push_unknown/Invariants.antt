@@ -1,11 +1,11 @@
 use Rattle.std.proofs.Common.{◌≡◌, ◌++◌, map, drop}
 use Rattle.std.specs.Prelude.{flat_map}
 use Rattle.eif_tree.specs.View.{class_view, decl_view}
-use Rattle.eif_check.specs.Faults.{unknown_in}
+use Rattle.eif_rules.specs.SystemRules.{unknown_name}
 use Rattle.eif_check.specs.Mentions.{name_at}
 use Rattle.eif_check.proofs.faults.push_unknown.Given as goal
 
 abbrev pub invariant-called : goal.invariant-called
 invariant-called l =
-    l.out ++ flat_map (unknown_in (class_view l.tree) (map name_at l.declared) (decl_view l.decl)) (map name_at (drop l.mention-index l.called))
-    ≡ l.initial.out ++ flat_map (unknown_in (class_view l.tree) (map name_at l.declared) (decl_view l.decl)) (map name_at l.called)
+    l.out ++ flat_map (unknown_name (class_view l.class) (map name_at l.declared) (decl_view l.decl)) (map name_at (drop l.mention-index l.called))
+    ≡ l.initial.out ++ flat_map (unknown_name (class_view l.class) (map name_at l.declared) (decl_view l.decl)) (map name_at l.called)

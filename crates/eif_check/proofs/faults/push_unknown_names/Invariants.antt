@@ -1,0 +1,10 @@
+use Rattle.std.proofs.Common.{◌≡◌, ◌++◌, map, drop}
+use Rattle.std.specs.Prelude.{flat_map}
+use Rattle.eif_tree.specs.View.{class_view}
+use Rattle.eif_rules.specs.SystemRules.{unknown_names_in}
+use Rattle.eif_check.proofs.faults.push_unknown_names.Given as goal
+
+abbrev pub invariant-classes : goal.invariant-classes
+invariant-classes l =
+    l.out ++ flat_map unknown_names_in (map class_view (drop l.class-index l.given))
+    ≡ l.initial.out ++ flat_map unknown_names_in (map class_view l.given)
