@@ -1,4 +1,13 @@
+pub mod Checked
 pub mod Completeness
-pub mod Forms
+pub mod CourseLemmas
+pub mod FileReads
+pub mod FileSteps
+pub mod ListLines
+pub mod ListedReads
+pub mod NoMemory
 pub mod Reports
+pub mod Rows
+pub mod Sequences
 pub mod Soundness
+pub mod Workers

@@ -1,44 +1,52 @@
--- The report of one file, by its verdict.
-use Rattle.std.proofs.Common.{◌≡◌, ◌≢◌, ℕ, true, false, List, [], ◌∷◌, refl, ap, sym, ◌∙◌, subst}
+-- The reports that a check makes.
+use Rattle.std.proofs.Common.{◌≡◌, ◌≢◌, ℕ, zero, Bool, true, false, List, [], ◌∷◌, length, refl, sym, ap, subst, ◌∙◌}
+use Rattle.std.specs.Bool.{MatchBool}
 use Rattle.eif_base.specs.declared.Fault.{Fault}
-use Rattle.eif_base.specs.FileLists.{NamedText, names_of}
+use Rattle.eif_base.specs.Appends.{In}
+use Rattle.eif_base.specs.FileLists.{NamedText, names_of, texts_of}
+use Rattle.eif_check.specs.Systems.{Broken}
+use Rattle.eif_check.specs.Verdicts.{IsVerdict}
+use Rattle.eif_report.specs.Order.{Lists}
+use Rattle.eif_report.specs.Report.{yes_text, verdict_text, IsReport}
 use Rattle.eif_report.specs.declared.Verdict.{Verdict}
 use Rattle.eif_report.specs.declared.Verdict.TheVariants as v
-use Rattle.eif_report.specs.Order.{In, Lists}
-use Rattle.eif_report.specs.Report.{yes_text, faults_text, verdict_text}
-use Rattle.eif_check.specs.Faults.{FaultsOf}
-use Rattle.eif_check.specs.Verdicts.{IsVerdict, Says}
-use Rattle.eifcheck.specs.declared.command.Report.{Report}
-use Rattle.eifcheck.specs.Answers.{IsOutput}
+use Rattle.eifcheck.specs.Answers.{IsYes, IsNo}
 use Rattle.eifcheck.specs.Form.{Command}
-use Rattle.eifcheck.specs.Judgement.{is_yes, is_empty, IsReportOf}
+use Rattle.eifcheck.specs.Inputs.{IsDue}
+use Rattle.eifcheck.specs.Judgement.{is_yes, IsListReport, IsReportOn}
+use Rattle.eifcheck.specs.Steps.{Step, judges, reports}
+use Rattle.eifcheck.specs.declared.command.Report.{Report}
+use Rattle.eifcheck.specs.declared.reading.Input.TheVariants as input
 
--- the file of a command, with its text
-abbrev pub file_of : Command → List ℕ → List NamedText
-file_of c text = record { name = c.file; text = text } ∷ []
+-- a list of faults that isn't empty has a first one
+some_broken : (names : List (List ℕ)) (list : List Fault) (broken : Fault → Type 0) → list ≢ [] → Lists names list broken
+    → (f : Fault) × broken f
+some_broken names [] broken some lists = absurd (some refl)
+some_broken names (f ∷ fs) broken some lists = (f, lists.only f (zero, refl))
 
-output_faults : (c : Command) (faults list : List Fault) (bytes : List ℕ) → faults ≢ [] → Lists (c.file ∷ []) list (In faults) → bytes ≡ faults_text (c.file ∷ []) list → IsOutput c.file faults bytes × (false ≡ is_empty faults)
-output_faults c [] list bytes some l e = absurd (some refl)
-output_faults c (f ∷ fs) list bytes some l e = ((list, l, e), refl)
+-- the text of a verdict on files is the report on them
+verdict_report : (c : Command) (files : List NamedText) (verdict : Verdict) → IsVerdict files c.root verdict
+    → MatchBool (is_yes verdict) (IsYes c (judges files) (verdict_text c.form (names_of files) verdict))
+    (IsNo c (judges files) (verdict_text c.form (names_of files) verdict))
+verdict_report c files (v.Yes n) is = (is.1, is.2, ap yes_text is.0)
+verdict_report c files (v.Faults list) is =
+    (some_broken (names_of files) list (Broken (texts_of files) c.root) is.0 is.1, (list, is.1, refl))
 
-output_of : (c : Command) (faults : List Fault) (verdict : Verdict) (bytes : List ℕ) → Says (c.file ∷ []) faults verdict → bytes ≡ verdict_text (c.file ∷ []) verdict → IsOutput c.file faults bytes × (is_yes verdict ≡ is_empty faults)
-output_of c faults (v.Yes n) bytes (none, count) e =
-    subst (λ fs. IsOutput c.file fs bytes × (true ≡ is_empty fs)) (sym none) (e ∙ ap yes_text count, refl)
-output_of c faults (v.Faults list) bytes (some, l) e = output_faults c faults list bytes some l e
+-- the report on a system, by its bytes and whether it says yes
+pub system_reported : (c : Command) (files : List NamedText) (verdict : Verdict) (bytes : List ℕ) (says : Bool)
+    → IsVerdict files c.root verdict → bytes ≡ verdict_text c.form (names_of files) verdict → says ≡ is_yes verdict
+    → MatchBool says (IsYes c (judges files) bytes) (IsNo c (judges files) bytes)
+system_reported c files verdict bytes says is text told =
+    subst (λ b. MatchBool b (IsYes c (judges files) bytes) (IsNo c (judges files) bytes)) (sym told)
+    (subst (λ t. MatchBool (is_yes verdict) (IsYes c (judges files) t) (IsNo c (judges files) t)) (sym text)
+    (verdict_report c files verdict is))
 
-pub faults_are : (c : Command) (text : List ℕ) (verdict : Verdict) (said : IsVerdict (file_of c text) c.root verdict) → FaultsOf 0 text c.root said.faults
-faults_are c text verdict said =
-    let same : said.text ≡ text = let e = said.is_text in cc in
-    subst (λ t. FaultsOf 0 t c.root said.faults) same said.are_faults
-
-pub outputs : (c : Command) (text : List ℕ) (verdict : Verdict) (bytes : List ℕ) (said : IsVerdict (file_of c text) c.root verdict) → bytes ≡ verdict_text (c.file ∷ []) verdict
-    → IsOutput c.file said.faults bytes × (is_yes verdict ≡ is_empty said.faults)
-outputs c text verdict bytes said e = output_of c said.faults verdict bytes said.says e
-
-pub is_report : (c : Command) (text : List ℕ) (files : List NamedText) (verdict : Verdict) (report : Report) → files ≡ file_of c text → IsVerdict files c.root verdict
-    → report.bytes.items ≡ verdict_text (names_of files) verdict → report.is_yes ≡ is_yes verdict → IsReportOf c text report
-is_report c text files verdict report e said bytes yes' =
-    let here = subst (λ (f : List NamedText). IsVerdict f c.root verdict) e said in
-    let written = bytes ∙ ap (λ (f : List NamedText). verdict_text (names_of f) verdict) e in
-    let o = outputs c text verdict report.bytes.items here written in
-    record { faults = here.faults; are_faults = faults_are c text verdict here; is_output = o.0; says = yes' ∙ o.1 }
+-- what is due when a list has faults is their report
+pub list_reported : (c : Command) (list : List NamedText) (faults : List Fault) (report : Report) (step : Step)
+    → faults ≢ [] → IsListReport c.form (names_of list) faults report → IsDue step (input.BadList list faults)
+    → IsReportOn c step report
+list_reported c list faults report step some told due =
+    subst (λ s. IsReportOn c s report) (sym due.2)
+    (subst (λ b. MatchBool b (IsYes c (reports due.0 faults) report.bytes.items) (IsNo c (reports due.0 faults) report.bytes.items))
+    (sym told.0)
+    (some, subst (λ names. IsReport c.form names (In faults) report.bytes.items) due.1 told.1))

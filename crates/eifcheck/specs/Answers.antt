@@ -1,18 +1,22 @@
 -- What the program answers, and what it reads and writes.
-use Rattle.std.specs.Prelude.{◌≡◌, ℕ, ◌<◌, ◌≤◌, ◌⊎◌, List, [], ◌∷◌, length, Option, Some, None, IfSome}
+use Rattle.std.specs.Prelude.{◌≡◌, ◌≢◌, ℕ, ◌⊎◌, List, [], ◌∷◌, length, take, Option, Some, None}
+use Rattle.std.specs.List.{All}
 use Rattle.eif_base.specs.declared.Fault.{Fault}
-use Rattle.eif_base.specs.declared.Ended.TheVariants as e
+use Rattle.eif_base.specs.Appends.{In}
 use Rattle.eif_base.specs.Causes.{HasRisen}
-use Rattle.eif_base.specs.Reads.{Read, AddsRead}
+use Rattle.eif_base.specs.FileLists.{NamedText, names_of, texts_of}
+use Rattle.eif_base.specs.Reads.{Read}
 use Rattle.eif_base.specs.Writes.{Writes, WritesFront}
-use Rattle.eif_report.specs.Order.{In}
+use Rattle.eif_tree.specs.Tree.{ClassT}
 use Rattle.eif_report.specs.Report.{yes_text, IsReport}
-use Rattle.eif_base.specs.declared.Root.{Root}
-use Rattle.eif_base.specs.declared.limits.TheConstants.{MOST_BYTES}
-use Rattle.eif_check.specs.Faults.{FaultsOf}
+use Rattle.eif_rules.specs.FaultForms.{IsNone}
+use Rattle.eif_check.specs.Systems.{AreClasses, Broken}
+use Rattle.eifcheck.specs.declared.reading.Stop.TheVariants as stop
 use Rattle.eifcheck.specs.declared.status.Status.{Status}
 use Rattle.eifcheck.specs.declared.status.Status.TheVariants as s
 use Rattle.eifcheck.specs.Form.{Command}
+use Rattle.eifcheck.specs.Steps.{Step, reports, judges, next_step, sequence}
+use Rattle.eifcheck.specs.Courses.{IsCourse, MakesReads, Stops}
 
 abbrev pub number_of : Status → ℕ
 number_of s.Yes = 0
@@ -23,55 +27,61 @@ number_of s.WriteFault = 4
 number_of s.Memory = 5
 number_of s.TooLarge = 6
 
--- the report on one file with these faults
-abbrev pub IsOutput : List ℕ → List Fault → List ℕ → Type 0
-IsOutput file [] bytes = bytes ≡ yes_text 1
-IsOutput file (f ∷ fs) bytes = IsReport (file ∷ []) (In (f ∷ fs)) bytes
+-- ---- reports
 
--- The text that was read has these faults. It is what the file holds, where that is told.
-pub record IsJudged (held : Option (List ℕ)) (root : Root) (faults : List Fault) : Type 0 where
-  pub text : List ℕ
-  pub is_held : IfSome held (λ h. text ≡ h)
-  pub short : length text ≤ MOST_BYTES
-  pub are_faults : FaultsOf 0 text root faults
+-- the files that are judged are class texts without a fault, and the bytes say so
+abbrev pub IsYes : Command → Step → List ℕ → Type 0
+IsYes c (judges files) bytes =
+    IsNone (Broken (texts_of files) c.root) × ((given : List ClassT) × AreClasses (texts_of files) given)
+    × (bytes ≡ yes_text (length files))
+IsYes c _ bytes = ⊥
 
--- the text was judged, and its report is these bytes
-pub record Reports (held : Option (List ℕ)) (c : Command) (faults : List Fault) (bytes : List ℕ) : Type 0 where
-  pub judged : IsJudged held c.root faults
-  pub is_output : IsOutput c.file faults bytes
+-- the bytes list the faults of the files that are judged, or of the list, and there are some
+abbrev pub IsNo : Command → Step → List ℕ → Type 0
+IsNo c (judges files) bytes =
+    ((f : Fault) × Broken (texts_of files) c.root f) × IsReport c.form (names_of files) (Broken (texts_of files) c.root) bytes
+IsNo c (reports list faults) bytes = (faults ≢ []) × IsReport c.form (list ∷ []) (In faults) bytes
+IsNo c _ bytes = ⊥
 
--- what the status says of a check, by what the file holds (where that is told) and what was written before and after
-abbrev pub ChecksSo : Command → Option (List ℕ) → Option (List ℕ) → Option (List ℕ) → Status → Type 0
--- no fault, and the report was written
-ChecksSo c held old new s.Yes = (bytes : List ℕ) × Reports held c [] bytes × Writes old new bytes
--- faults, and the report was written
-ChecksSo c held old new s.Faults = (f : Fault) × (fs : List Fault) × (bytes : List ℕ) × Reports held c (f ∷ fs) bytes × Writes old new bytes
-ChecksSo c held old new s.Usage = ⊥
-ChecksSo c held old new s.ReadFault = new ≡ old
--- a front of the report was written
-ChecksSo c held old new s.WriteFault = (faults : List Fault) × (bytes : List ℕ) × Reports held c faults bytes × WritesFront old new bytes
-ChecksSo c held old new s.Memory = new ≡ old
--- the file holds more bytes than a class text may have
-ChecksSo c held old new s.TooLarge = IfSome held (λ h. MOST_BYTES < length h) × (new ≡ old)
+-- ---- a check
+
+-- what was read, by how a check ended
+abbrev pub ReadsSo : Command → (List ℕ → Option (List ℕ)) → List NamedText → List Read → List Read → Status → Type 0
+ReadsSo c holds got old new s.ReadFault = Stops (next_step c) holds got old new stop.ReadFault
+ReadsSo c holds got old new s.TooLarge = Stops (next_step c) holds got old new stop.TooLarge
+ReadsSo c holds got old new _ = MakesReads got [] old new
+
+-- what was written, by the step that was due and how the check ended
+abbrev pub WritesSo : Command → Step → Option (List ℕ) → Option (List ℕ) → Status → Type 0
+WritesSo c step old new s.Yes = (bytes : List ℕ) × IsYes c step bytes × Writes old new bytes
+WritesSo c step old new s.Faults = (bytes : List ℕ) × IsNo c step bytes × Writes old new bytes
+-- a front of the report
+WritesSo c step old new s.WriteFault = (bytes : List ℕ) × (IsYes c step bytes ⊎ IsNo c step bytes) × WritesFront old new bytes
+WritesSo c step old new s.Usage = ⊥
+WritesSo c step old new _ = new ≡ old
+
+-- the names were read in the order of the sequence, and where files are judged all of them were
+abbrev pub InSequence : Command → List NamedText → Step → Type 0
+InSequence c got (judges files) = names_of got ≡ sequence c (texts_of got)
+InSequence c got _ = names_of got ≡ take (length got) (sequence c (texts_of got))
+
+-- A check: the texts that it got, each when it was due; and by them what it answered, read and wrote.
+pub record Checks (c : Command) (holds : List ℕ → Option (List ℕ)) (old new : List Read)
+    (before after : Option (List ℕ)) (status : Status) : Type 0 where
+  pub got : List NamedText
+  pub is_course : IsCourse (next_step c) holds got
+  pub in_sequence : InSequence c got (next_step c (texts_of got))
+  pub reads_are : ReadsSo c holds got old new status
+  pub writes_are : WritesSo c (next_step c (texts_of got)) before after status
 
 -- The same of all words: the answer is Usage exactly where they aren't of the form, unless memory runs out first.
-abbrev pub Answers : Option Command → (List ℕ → Option (List ℕ)) → Option (List ℕ) → Option (List ℕ) → Status → Type 0
-Answers None holds old new status = ((status ≡ s.Usage) ⊎ (status ≡ s.Memory)) × (new ≡ old)
-Answers (Some c) holds old new status = ChecksSo c (holds c.file) old new status
+abbrev pub Answers : Option Command → (List ℕ → Option (List ℕ)) → List Read → List Read → Option (List ℕ) → Option (List ℕ)
+    → Status → Type 0
+Answers None holds old new before after status =
+    ((status ≡ s.Usage) ⊎ (status ≡ s.Memory)) × (new ≡ old) × (after ≡ before)
+Answers (Some c) holds old new before after status = Checks c holds old new before after status
 
--- the reads of a check, by how it ended: of the file alone, and once at most
-abbrev pub ReadsSo : List ℕ → List Read → List Read → Status → Type 0
-ReadsSo file old new s.Yes = AddsRead old new file e.Whole
-ReadsSo file old new s.Faults = AddsRead old new file e.Whole
-ReadsSo file old new s.Usage = new ≡ old
-ReadsSo file old new s.ReadFault = AddsRead old new file e.Failed
-ReadsSo file old new s.WriteFault = AddsRead old new file e.Whole
-ReadsSo file old new s.Memory = (new ≡ old) ⊎ AddsRead old new file e.Whole
-ReadsSo file old new s.TooLarge = AddsRead old new file e.TooLong
-
-abbrev pub ReadsFor : Option Command → List Read → List Read → Status → Type 0
-ReadsFor None old new status = new ≡ old
-ReadsFor (Some c) old new status = ReadsSo c.file old new status
+-- ---- counts of faults
 
 -- the source's count of faults: it rose where a read failed, and else is as before
 abbrev pub CountsReads : ℕ → ℕ → Status → Type 0
@@ -83,20 +93,29 @@ abbrev pub CountsWrites : ℕ → ℕ → Status → Type 0
 CountsWrites old new s.WriteFault = HasRisen old new
 CountsWrites old new _ = new ≡ old
 
--- an answer on the class text
+-- ---- completeness
+
+-- an answer on the system
 abbrev pub IsAnswer : Status → Type 0
 IsAnswer s.Yes = Unit {0}
 IsAnswer s.Faults = Unit {0}
 IsAnswer s.Memory = Unit {0}
 IsAnswer _ = ⊥
 
--- a file within its limit, where that is told
-abbrev pub IsWithin : Option (List ℕ) → Type 0
-IsWithin None = ⊥
-IsWithin (Some h) = length h ≤ MOST_BYTES
+abbrev pub IsReported : Step → Type 0
+IsReported (reports list faults) = Unit {0}
+IsReported (judges files) = Unit {0}
+IsReported _ = ⊥
 
--- Completeness: where the words are of the form, no count rose and the file is within its limit, the check has an answer.
+-- it is told what the names of the command hold, and that is within the limits
+pub record IsWithin (c : Command) (holds : List ℕ → Option (List ℕ)) : Type 0 where
+  pub texts : List NamedText
+  pub is_course : IsCourse (next_step c) holds texts
+  pub held : All (λ f. holds f.name ≡ Some f.text) texts
+  pub reported : IsReported (next_step c (texts_of texts))
+
+-- Completeness: where the words are of the form, no count rose and the files are within the limits, there is an answer.
 abbrev pub IsComplete : Option Command → (List ℕ → Option (List ℕ)) → ℕ → ℕ → ℕ → ℕ → Status → Type 0
 IsComplete None holds r r' w w' status = Unit {0}
 IsComplete (Some c) holds r r' w w' status =
-    IsWithin (holds c.file) → (HasRisen r r' → ⊥) → (HasRisen w w' → ⊥) → IsAnswer status
+    IsWithin c holds → (HasRisen r r' → ⊥) → (HasRisen w w' → ⊥) → IsAnswer status

@@ -1,5 +1,9 @@
 pub mod Answers
+pub mod Courses
 pub mod Form
 pub mod Headline
+pub mod Inputs
 pub mod Judgement
+pub mod ListFile
 pub mod ReadWords
+pub mod Steps

@@ -2,12 +2,19 @@
 #![tactic(auto)]
 
 mod command;
+mod command_line;
+mod list_file;
+mod reading;
+#[cfg(test)]
+mod reading_tests;
 mod status;
 mod system;
 #[cfg(test)]
 mod tests;
 #[cfg(test)]
 mod tree_tests;
+#[cfg(test)]
+mod word_tests;
 mod words;
 
 pub use command::eifcheck;

@@ -15,7 +15,7 @@ pub enum Status {
     WriteFault,
     /// There was not enough memory.
     Memory,
-    /// A file has more bytes than a class text may have.
+    /// A file has too many bytes, or there are too many files, or too many bytes in all.
     TooLarge,
 }
 

@@ -13,7 +13,7 @@ pub fn complaint(status: Status) -> Option<&'static str> {
     match status {
         Status::Yes | Status::Faults => None,
         Status::Usage => Some(
-            "usage: eifcheck --root CLASS.PROCEDURE [--do check|gen] [--workers N] [--list FILE] [--classes N] [FILES]",
+            "usage: eifcheck --root CLASS.PROCEDURE [--do check] [--form 1|2] [--workers N] [--list FILE] [FILES]",
         ),
         Status::ReadFault => Some("a file could not be read"),
         Status::WriteFault => Some("the report could not be written"),

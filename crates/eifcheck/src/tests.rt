@@ -1,161 +1,35 @@
 ghost use Rattle.std.specs.Prelude.{◌≢◌};
 ghost use Rattle.eifcheck.specs.declared.status.Status.TheVariants.{ReadFault, WriteFault};
 
+mod large;
+mod rows;
+
 use crate::system::complaint;
 use crate::{Status, eifcheck};
 use eif_base::{FileTexts, MemSink, MemTexts, OpenGate, SureSink, SureTexts, Texts};
+use rows::{APP, ROWS, Row};
 use std::alloc::{AllocError, Global};
 use std::fs;
 use std::rt::Files;
 use std::test::Fail;
 use std::thread::Threads;
 
-const APP: &[u8] = b"class APP\ncreate make\nfeature\n  make\n    do\n    end\nend\n";
-
-/// A root word, a file name, what the file holds, and what the check of it gives.
-struct Row {
-    root: &'static str,
-    file: &'static str,
-    text: &'static [u8],
-    status: Status,
-    report: &'static [u8],
-}
-
-const ROWS: [Row; 17] = [
-    Row {
-        root: "app.make",
-        file: "app.e",
-        text: APP,
-        status: Status::Yes,
-        report: b"yes 1 classes\n",
-    },
-    Row {
-        root: "APP.Make",
-        file: "app.e",
-        text: b"CLASS app CREATE MAKE FEATURE Make DO END END",
-        status: Status::Yes,
-        report: b"yes 1 classes\n",
-    },
-    Row {
-        root: "app.go",
-        file: "app.e",
-        text: APP,
-        status: Status::Faults,
-        report: b"VSRP app - app.e:1:7 go\nno 1 faults\n",
-    },
-    Row {
-        root: "app.make",
-        file: "app.e",
-        text: b"class APP create make feature make do go end end",
-        status: Status::Faults,
-        report: b"VEEN app make app.e:1:39 go\nno 1 faults\n",
-    },
-    Row {
-        root: "app.make",
-        file: "app.e",
-        text: b"class APP create make feature make do b a end a do b end end",
-        status: Status::Faults,
-        report: b"VEEN app make app.e:1:39 b\nVEEN app a app.e:1:52 b\nno 2 faults\n",
-    },
-    Row {
-        root: "app.make",
-        file: "app.e",
-        text: b"class APP create make feature make do go stop end end",
-        status: Status::Faults,
-        report: b"VEEN app make app.e:1:39 go\nVEEN app make app.e:1:42 stop\nno 2 faults\n",
-    },
-    Row {
-        root: "app.make",
-        file: "app.e",
-        text: b"class APP create make feature make do make end end",
-        status: Status::Yes,
-        report: b"yes 1 classes\n",
-    },
-    Row {
-        root: "app.make",
-        file: "app.e",
-        text: b"class APP\ncreate make\nfeature\n  make\n    do\n      run (Void)\n    end\n  run (x: detachable A)\n    do\n      x.put (Void)\n    end\nend\n",
-        status: Status::Faults,
-        report: b"XYET app - app.e:1:7 -\nno 1 faults\n",
-    },
-    Row {
-        root: "app.make",
-        file: "app.e",
-        text: b"class APP create make feature make do end Make do end end",
-        status: Status::Faults,
-        report: b"XYET app - app.e:1:7 -\nno 1 faults\n",
-    },
-    Row {
-        root: "nosuch.make",
-        file: "app.e",
-        text: APP,
-        status: Status::Faults,
-        report: b"VSRT nosuch - -:0:0 nosuch\nno 1 faults\n",
-    },
-    Row {
-        root: "app.make",
-        file: "e.e",
-        text: b"",
-        status: Status::Faults,
-        report: b"XSYN - - e.e:1:1 -\nno 1 faults\n",
-    },
-    Row {
-        root: "app.make",
-        file: "s.e",
-        text: b"class S feature t: STRING = \"ab",
-        status: Status::Faults,
-        report: b"XLEX - - s.e:1:29 -\nno 1 faults\n",
-    },
-    Row {
-        root: "app.make",
-        file: "o.e",
-        text: b"class O feature x do once end end )",
-        status: Status::Faults,
-        report: b"XOUT - - o.e:1:22 once\nno 1 faults\n",
-    },
-    Row {
-        root: "app.make",
-        file: "app.e",
-        text: b"class APP create make feature make do make ( ) end end",
-        status: Status::Faults,
-        report: b"XSYN - - app.e:1:46 -\nno 1 faults\n",
-    },
-    Row {
-        root: "app.make",
-        file: "app.e",
-        text: b"class APP create {NONE} make feature make do go end feature {NONE} go do end end",
-        status: Status::Yes,
-        report: b"yes 1 classes\n",
-    },
-    Row {
-        root: "app.make",
-        file: "app.e",
-        text: b"class APP create {OUT} make feature make do end end",
-        status: Status::Faults,
-        report: b"XYET app - app.e:1:7 -\nno 1 faults\n",
-    },
-    Row {
-        root: "app.make",
-        file: "app.e",
-        text: b"deferred class APP create make feature make do end end",
-        status: Status::Faults,
-        report: b"XYET app - app.e:1:16 -\nno 1 faults\n",
-    },
-];
+/// The numbers of workers that each system is checked with.
+const WORKERS: [&str; 4] = ["1", "2", "7", "64"];
 
 /// Class texts that aren't plain, with the class's name at 1:7.
 const OTHER_FORMS: [&[u8]; 11] = [
-    b"class APP feature end",
-    b"class APP create make feature make do print end end",
-    b"class APP [G] create make feature make do end end",
-    b"class APP inherit ANY create make feature make do end end",
-    b"class APP create make create go feature make do end go do end end",
-    b"class APP create make, go feature make do end go do end end",
-    b"class APP create make feature make (a: ANY) do end end",
-    b"class APP create make feature make local a: ANY do end end",
-    b"class APP create make feature make do end a: ANY end",
-    b"class APP create make feature make require True do end end",
-    b"class APP create make feature make do end invariant True end",
+    b"class B feature end",
+    b"class B create make feature make do print end end",
+    b"class B [G] create make feature make do end end",
+    b"class B inherit ANY create make feature make do end end",
+    b"class B create make create go feature make do end go do end end",
+    b"class B create make, go feature make do end go do end end",
+    b"class B create make feature make (a: ANY) do end end",
+    b"class B create make feature make local a: ANY do end end",
+    b"class B create make feature make do end a: ANY end",
+    b"class B create make feature make require True do end end",
+    b"class B create make feature make do end invariant True end",
 ];
 
 /// The lengths of the fronts of `APP` that end before its first token or with a token but its last, and the report on
@@ -173,18 +47,12 @@ const FRONTS: [(usize, &[u8]); 9] = [
 ];
 
 /// Words that aren't those of a command, one list a row.
-const OTHER_WORDS: [&[&str]; 11] = [
+const OTHER_WORDS: [&[&str]; 5] = [
     &[],
     &["--root", "app", "app.e"],
     &["--root", "app.make"],
-    &["--root", "app.make", "app.e", "app.e"],
-    &["--root", "app.make", "-app.e"],
-    &["--root", "app.", "app.e"],
-    &["--root", ".make", "app.e"],
-    &["--root", "app.make.", "app.e"],
-    &["--root", "1app.make", "app.e"],
-    &["--root", "app.end", "app.e"],
-    &["--Root", "app.make", "app.e"],
+    &["--root", "app.make", "--workers", "65", "app.e"],
+    &["--root", "app.make", "--do", "gen", "app.e"],
 ];
 
 /// Statuses, and what the program says of them.
@@ -194,7 +62,7 @@ const COMPLAINTS: [(Status, Option<&str>); 7] = [
     (
         Status::Usage,
         Some(
-            "usage: eifcheck --root CLASS.PROCEDURE [--do check|gen] [--workers N] [--list FILE] [--classes N] [FILES]",
+            "usage: eifcheck --root CLASS.PROCEDURE [--do check] [--form 1|2] [--workers N] [--list FILE] [FILES]",
         ),
     ),
     (Status::ReadFault, Some("a file could not be read")),
@@ -203,8 +71,11 @@ const COMPLAINTS: [(Status, Option<&str>); 7] = [
     (Status::TooLarge, Some("the input is too large")),
 ];
 
-fn owned(alloc: Global, words: &[&str]) -> Result<Vec<String>, AllocError> {
+/// The words, and behind them a number of workers.
+fn owned(alloc: Global, words: &[&str], workers: &str) -> Result<Vec<String>, AllocError> {
     let mut all = Vec::new(alloc);
+    all.push(String::from_str(alloc, "--workers")?)?;
+    all.push(String::from_str(alloc, workers)?)?;
     for word in words {
         all.push(String::from_str(alloc, word)?)?;
     }
@@ -215,27 +86,46 @@ fn owned(alloc: Global, words: &[&str]) -> Result<Vec<String>, AllocError> {
 fn ends_so<R: Threads + Sync, T: Texts>(
     rt: &R,
     alloc: Global,
-    words: &[&str],
+    words: &[String],
     texts: &mut T,
     status: Status,
     report: &[u8],
 ) -> Result<bool, Fail> {
-    let words = owned(alloc, words)?;
-    let mut sink = MemSink::new(alloc, 4096)?;
-    let ended = eifcheck(rt, alloc, &words, texts, &mut sink, &OpenGate);
+    let mut sink = MemSink::new(alloc, 32768)?;
+    let ended = eifcheck(rt, alloc, words, texts, &mut sink, &OpenGate);
     Ok(ended == status && sink.written() == report)
 }
 
-fn mem_texts(alloc: Global, file: &str, text: &[u8]) -> Result<MemTexts, Fail> {
+fn mem_texts(alloc: Global, files: &[(&str, &[u8])]) -> Result<MemTexts, Fail> {
     let mut texts = MemTexts::new(alloc);
-    texts.put(file, Vec::from_slice(alloc, text)?)?;
+    for (name, text) in files {
+        texts.put(name, Vec::from_slice(alloc, text)?)?;
+    }
     Ok(texts)
 }
 
-fn sure_texts(alloc: Global, file: &str, text: &[u8]) -> Result<SureTexts, Fail> {
+fn sure_texts(alloc: Global, files: &[(&str, &[u8])]) -> Result<SureTexts, Fail> {
     let mut texts = SureTexts::new(alloc);
-    texts.put(file, Vec::from_slice(alloc, text)?)?;
+    for (name, text) in files {
+        texts.put(name, Vec::from_slice(alloc, text)?)?;
+    }
     Ok(texts)
+}
+
+/// The first number of workers for which the row fails in memory.
+fn wrong_row<R: Threads + Sync>(
+    rt: &R,
+    alloc: Global,
+    row: &Row,
+) -> Result<Option<&'static str>, Fail> {
+    for workers in WORKERS {
+        let words = owned(alloc, row.words, workers)?;
+        let mut texts = mem_texts(alloc, row.files)?;
+        if !ends_so(rt, alloc, &words, &mut texts, row.status, row.report)? {
+            return Ok(Some(workers));
+        }
+    }
+    Ok(None)
 }
 
 /// The number of the first row that fails in memory.
@@ -245,25 +135,25 @@ fn wrong_in_memory<R: Threads + Sync>(
     rows: &[Row],
 ) -> Result<Option<usize>, Fail> {
     for i in 0..rows.len() {
-        let row = &rows[i];
-        let words = ["--root", row.root, row.file];
-        let mut texts = mem_texts(alloc, row.file, row.text)?;
-        if !ends_so(rt, alloc, &words, &mut texts, row.status, row.report)? {
+        if wrong_row(rt, alloc, &rows[i])?.is_some() {
             return Ok(Some(i));
         }
     }
     Ok(None)
 }
 
-/// Whether the check of that text from `app.make` finds faults, and reports so.
+/// Whether the check of these files from `app.make` finds faults, and reports so.
 fn is_faulty<R: Threads + Sync>(
     rt: &R,
     alloc: Global,
-    text: &[u8],
+    files: &[(&str, &[u8])],
     report: &[u8],
 ) -> Result<bool, Fail> {
-    let words = ["--root", "app.make", "app.e"];
-    let mut texts = mem_texts(alloc, "app.e", text)?;
+    let mut words = owned(alloc, &["--root", "app.make"], "2")?;
+    for (name, _) in files {
+        words.push(String::from_str(alloc, name)?)?;
+    }
+    let mut texts = mem_texts(alloc, files)?;
     ends_so(rt, alloc, &words, &mut texts, Status::Faults, report)
 }
 
@@ -273,9 +163,9 @@ fn wrong_form<R: Threads + Sync>(
     alloc: Global,
     rows: &[&[u8]],
 ) -> Result<Option<usize>, Fail> {
-    let report = b"XYET app - app.e:1:7 -\nno 1 faults\n";
+    let report = b"XYET b - b.e:1:7 -\nno 1 faults\n";
     for i in 0..rows.len() {
-        if !is_faulty(rt, alloc, rows[i], report)? {
+        if !is_faulty(rt, alloc, &[("app.e", APP), ("b.e", rows[i])], report)? {
             return Ok(Some(i));
         }
     }
@@ -291,7 +181,7 @@ fn wrong_front<R: Threads + Sync>(
     for i in 0..rows.len() {
         let (length, report) = rows[i];
         let front = APP.get(..length).ok_or("a front is too long")?;
-        if !is_faulty(rt, alloc, front, report)? {
+        if !is_faulty(rt, alloc, &[("app.e", front)], report)? {
             return Ok(Some(i));
         }
     }
@@ -341,8 +231,8 @@ fn wrong_surely<R: Threads + Sync>(
 ) -> Result<Option<usize>, Fail> {
     for i in 0..rows.len() {
         let row = &rows[i];
-        let words = owned(alloc, &["--root", row.root, row.file])?;
-        let mut texts = sure_texts(alloc, row.file, row.text)?;
+        let words = owned(alloc, row.words, "2")?;
+        let mut texts = sure_texts(alloc, row.files)?;
         let mut sink = SureSink::new();
         let ended = check_surely(rt, alloc, &words, &mut texts, &mut sink);
         let wrote = sink.count() == row.report.len() as u64 && sink.sum() == sum_of(row.report);
@@ -353,6 +243,13 @@ fn wrong_surely<R: Threads + Sync>(
     Ok(None)
 }
 
+fn write_files<R: Files>(rt: &R, files: &[(&str, &[u8])]) -> Result<(), Fail> {
+    for (name, text) in files {
+        fs::write(rt, name, *text)?;
+    }
+    Ok(())
+}
+
 /// The number of the first row that fails over files.
 fn wrong_over_files<R: Threads + Sync + Files>(
     rt: &R,
@@ -361,12 +258,10 @@ fn wrong_over_files<R: Threads + Sync + Files>(
 ) -> Result<Option<usize>, Fail> {
     for i in 0..rows.len() {
         let row = &rows[i];
-        fs::write(rt, row.file, row.text)?;
+        write_files(rt, row.files)?;
         let mut texts = FileTexts::new(rt, alloc);
-        let words = ["--root", row.root, row.file];
-        let is_so = ends_so(rt, alloc, &words, &mut texts, row.status, row.report)?;
-        fs::remove_file(rt, row.file)?;
-        if !is_so {
+        let words = owned(alloc, row.words, "2")?;
+        if !ends_so(rt, alloc, &words, &mut texts, row.status, row.report)? {
             return Ok(Some(i));
         }
     }
@@ -380,10 +275,30 @@ fn wrong_words<R: Threads + Sync>(
     rows: &[&[&str]],
 ) -> Result<Option<usize>, Fail> {
     for i in 0..rows.len() {
-        let mut texts = mem_texts(alloc, "app.e", APP)?;
+        let mut words = Vec::new(alloc);
+        for word in rows[i] {
+            words.push(String::from_str(alloc, word)?)?;
+        }
+        let mut texts = mem_texts(alloc, &[("app.e", APP)])?;
         texts.fail(1)?;
-        if !ends_so(rt, alloc, rows[i], &mut texts, Status::Usage, b"")? {
+        if !ends_so(rt, alloc, &words, &mut texts, Status::Usage, b"")? {
             return Ok(Some(i));
+        }
+    }
+    Ok(None)
+}
+
+/// The number of the first of three reads, of a list and the files that it names, whose failure isn't told.
+fn wrong_read<R: Threads + Sync>(rt: &R, alloc: Global) -> Result<Option<u64>, Fail> {
+    let words = owned(alloc, &["--root", "app.make", "--list", "l.txt"], "1")?;
+    for number in 1..4 {
+        let mut texts = mem_texts(
+            alloc,
+            &[("l.txt", b"app.e\nb.e\n"), ("app.e", APP), ("b.e", b"")],
+        )?;
+        texts.fail(number)?;
+        if !ends_so(rt, alloc, &words, &mut texts, Status::ReadFault, b"")? {
+            return Ok(Some(number));
         }
     }
     Ok(None)
@@ -392,9 +307,9 @@ fn wrong_words<R: Threads + Sync>(
 /// The first count of bytes for which a write that lets so many through isn't told as it is.
 fn wrong_write<R: Threads + Sync>(rt: &R, alloc: Global) -> Result<Option<usize>, Fail> {
     let report = b"yes 1 classes\n".as_slice();
-    let words = owned(alloc, &["--root", "app.make", "app.e"])?;
+    let words = owned(alloc, &["--root", "app.make", "app.e"], "1")?;
     for k in 0..report.len() + 1 {
-        let mut texts = mem_texts(alloc, "app.e", APP)?;
+        let mut texts = mem_texts(alloc, &[("app.e", APP)])?;
         let mut sink = MemSink::new(alloc, 64)?;
         sink.fail(1, k)?;
         let ended = eifcheck(rt, alloc, &words, &mut texts, &mut sink, &OpenGate);
@@ -403,13 +318,6 @@ fn wrong_write<R: Threads + Sync>(rt: &R, alloc: Global) -> Result<Option<usize>
         }
     }
     Ok(None)
-}
-
-/// The class text, padded with spaces to so many bytes.
-fn padded(alloc: Global, count: usize) -> Result<Vec<u8>, AllocError> {
-    let mut text = Vec::from_slice(alloc, APP)?;
-    text.resize(count, b' ')?;
-    Ok(text)
 }
 
 /// The number of the first status of which the program says something else.
@@ -467,11 +375,11 @@ fn trees_may_be_400_high(rt: HostRuntime) -> Result<(), Fail> {
     let alloc = rt.alloc();
     let text = nested(alloc, 398)?;
     let report = b"XYET app - app.e:1:7 -\nno 1 faults\n";
-    let is_so = is_faulty(&rt, alloc, &text, report)?;
+    let is_so = is_faulty(&rt, alloc, &[("app.e", &text)], report)?;
     assert!(rt; is_so);
     let text = nested(alloc, 399)?;
     let report = b"XSYN - - app.e:1:459 -\nno 1 faults\n";
-    let is_so = is_faulty(&rt, alloc, &text, report)?;
+    let is_so = is_faulty(&rt, alloc, &[("app.e", &text)], report)?;
     assert!(rt; is_so);
     Ok(())
 }
@@ -484,42 +392,10 @@ fn other_words_are_refused(rt: HostRuntime) -> Result<(), Fail> {
 }
 
 #[test]
-fn a_read_fails(rt: HostRuntime) -> Result<(), Fail> {
-    let alloc = rt.alloc();
-    let words = ["--root", "app.make", "app.e"];
-    let mut texts = mem_texts(alloc, "app.e", APP)?;
-    texts.fail(1)?;
-    let is_so = ends_so(&rt, alloc, &words, &mut texts, Status::ReadFault, b"")?;
-    assert!(rt; is_so);
-    let mut texts = MemTexts::new(alloc);
-    let is_so = ends_so(&rt, alloc, &words, &mut texts, Status::ReadFault, b"")?;
-    assert!(rt; is_so);
-    Ok(())
-}
-
-#[test]
-fn a_write_fails(rt: HostRuntime) -> Result<(), Fail> {
+fn reads_and_writes_fail(rt: HostRuntime) -> Result<(), Fail> {
+    let wrong = wrong_read(&rt, rt.alloc())?;
+    assert_eq!(rt; wrong, None);
     let wrong = wrong_write(&rt, rt.alloc())?;
     assert_eq!(rt; wrong, None);
-    Ok(())
-}
-
-#[test]
-fn a_file_may_have_a_mebibyte(rt: HostRuntime) -> Result<(), Fail> {
-    let alloc = rt.alloc();
-    let words = ["--root", "app.make", "app.e"];
-    let mut texts = mem_texts(alloc, "app.e", &padded(alloc, 1_048_576)?)?;
-    let is_so = ends_so(
-        &rt,
-        alloc,
-        &words,
-        &mut texts,
-        Status::Yes,
-        b"yes 1 classes\n",
-    )?;
-    assert!(rt; is_so);
-    let mut texts = mem_texts(alloc, "app.e", &padded(alloc, 1_048_577)?)?;
-    let is_so = ends_so(&rt, alloc, &words, &mut texts, Status::TooLarge, b"")?;
-    assert!(rt; is_so);
     Ok(())
 }

@@ -1,17 +1,27 @@
 use Rattle.std.proofs.Common.{map, string_bytes}
+use Rattle.eif_sound.proofs.Soundness as soundness
 use Rattle.eifcheck.specs.Form.{form}
 use Rattle.eifcheck.specs.ReadWords.{command_of}
-use Rattle.eifcheck.proofs.Completeness.{complete}
-use Rattle.eifcheck.proofs.Soundness.{sound_check}
+use Rattle.eifcheck.proofs.Completeness.{complete_words}
+use Rattle.eifcheck.proofs.NoMemory.{no_memory, no_memory_completes, no_memory_sound}
+use Rattle.eifcheck.proofs.Soundness.{sound_words}
 use Rattle.eifcheck.proofs.command.eifcheck.Goals as goal
 
 pub returns-in-Ok-clause-complete : goal.returns-in-Ok-clause-complete
 returns-in-Ok-clause-complete g c =
-    complete (form (map string_bytes c.args.words.now)) (command_of c.in-Ok.words) c.in-Ok.ensures (g.T.Texts.holds c.args.texts.now) (g.S.Sink.written c.args.sink.now)
-    (g.S.Sink.written c.check_file.new.sink) (g.T.Texts.faults c.args.texts.now) (g.T.Texts.faults c.check_file.new.texts) (g.S.Sink.faults c.args.sink.now)
-    (g.S.Sink.faults c.check_file.new.sink) c.check_file.result c.check_file.ensures.answer c.check_file.ensures.read_faults c.check_file.ensures.write_faults
+    complete_words (form (map string_bytes c.args.words.now)) (command_of c.in-Ok.words) c.in-Ok.ensures
+    _ _ _ _ _ _ _ _ _ _ c.check.ensures.answer c.check.ensures.read_faults c.check.ensures.write_faults
 
 pub returns-in-Ok-clause-sound : goal.returns-in-Ok-clause-sound
 returns-in-Ok-clause-sound g c =
-    sound_check (form (map string_bytes c.args.words.now)) (command_of c.in-Ok.words) c.in-Ok.ensures (g.T.Texts.holds c.args.texts.now) (g.S.Sink.written c.args.sink.now)
-    (g.S.Sink.written c.check_file.new.sink) c.check_file.result c.check_file.ensures.answer
+    sound_words (form (map string_bytes c.args.words.now)) (command_of c.in-Ok.words) c.in-Ok.ensures soundness.sound
+    _ _ _ _ _ _ c.check.ensures.answer
+
+pub returns-in-Err-Memory-clause-answer : goal.returns-in-Err-Memory-clause-answer
+returns-in-Err-Memory-clause-answer g c = no_memory (form (map string_bytes c.args.words.now)) _ _ _
+
+pub returns-in-Err-Memory-clause-complete : goal.returns-in-Err-Memory-clause-complete
+returns-in-Err-Memory-clause-complete g c = no_memory_completes (form (map string_bytes c.args.words.now)) _ _ _ _ _
+
+pub returns-in-Err-Memory-clause-sound : goal.returns-in-Err-Memory-clause-sound
+returns-in-Err-Memory-clause-sound g c = no_memory_sound (form (map string_bytes c.args.words.now)) _
