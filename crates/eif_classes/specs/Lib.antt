@@ -1,0 +1,16 @@
+pub mod Ancestry
+pub mod Binding
+pub mod Clients
+pub mod Conformance
+pub mod Constraints
+pub mod Creators
+pub mod Descent
+pub mod Entries
+pub mod Features
+pub mod KernelNumbers
+pub mod Names
+pub mod Precursors
+pub mod Resolution
+pub mod RisingLists
+pub mod Signatures
+pub mod Types

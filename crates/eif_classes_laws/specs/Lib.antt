@@ -1,0 +1,9 @@
+pub mod AncestryExamples
+pub mod BindingExamples
+pub mod ClassTexts
+pub mod ClientExamples
+pub mod ConformanceExamples
+pub mod FeatureExamples
+pub mod SignatureExamples
+pub mod TypeExamples
+pub mod TypesInWords
