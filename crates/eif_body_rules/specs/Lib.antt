@@ -1,0 +1,16 @@
+pub mod BodyRules
+pub mod CallRules
+pub mod Conditions
+pub mod CreationRules
+pub mod EntityRules
+pub mod ExpressionTypes
+pub mod Facts
+pub mod InstructionRules
+pub mod Judgements
+pub mod KnownFacts
+pub mod LocalFlow
+pub mod OperatorRules
+pub mod PlainFacts
+pub mod Settings
+pub mod Targets
+pub mod TestRules

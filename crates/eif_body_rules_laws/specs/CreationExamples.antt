@@ -1,0 +1,189 @@
+-- The rules of creations. Above each example stands its class text, in one line of the first file, or the
+-- instructions in such a text; a second text is the second file.
+use Rattle.std.specs.Prelude.{◌≡◌, true, [], ◌∷◌, Some, None, codes}
+use Rattle.eif_base.specs.declared.code.Code.TheVariants as code
+use Rattle.eif_tree.specs.declared.tree.Mark.TheVariants.{Plain}
+use Rattle.eif_tree.specs.Tree.{call, no_clients, ClassT}
+use Rattle.eif_tree.specs.View.{inss_from}
+use Rattle.eif_system.specs.TreeForms.{bare_class, procedure}
+use Rattle.eif_body_rules.specs.BodyRules.{body_faults}
+use Rattle.eif_body_rules_laws.specs.PlacedTexts.{at, there, name, written, plain, maybe, int, apply, new, make, group, routine_of, formal, creators, features, declares, breach, alone, f_does}
+
+-- class C create make feature make do end h do end end
+abbrev pub closed_class : ClassT
+closed_class =
+    record (bare_class (there 7) (codes "c")) {
+      creators = creators no_clients (name (there 16) "make" ∷ []) ∷ [];
+      features =
+          features no_clients
+          (procedure (name (there 29) "make") (inss_from [])
+          ∷ procedure (name (there 41) "h") (inss_from []) ∷ [])
+          ∷ [];
+    }
+
+-- deferred class C end
+abbrev pub deferred_class : ClassT
+deferred_class = record (bare_class (there 16) (codes "c")) { is_deferred = true }
+
+-- creation instructions
+pub record InstructionExamples : Type 0 where
+  -- VGCI.1: class B [G] feature f local x: G do create x end end
+  pub formal_type :
+      alone
+      (record (bare_class (at 7) (codes "b")) {
+        formals = formal (at 10) "g" None ∷ [];
+        features =
+            features no_clients
+            (routine_of (name (at 21) "f") [] None (group (name (at 29) "x" ∷ []) (plain (at 32) "g") ∷ [])
+            (make (at 37) None (name (at 44) "x") None [] ∷ []) ∷ [])
+            ∷ [];
+      })
+      ≡ breach "b" "f" code.Vgci 1 (at 37) "g" ∷ []
+  -- written with the mark detachable: class B feature f local x: detachable ANY do create {detachable ANY} x end
+  -- end
+  pub marked :
+      alone
+      (declares (at 7) "b"
+      (routine_of (name (at 17) "f") [] None
+      (group (name (at 25) "x" ∷ []) (maybe (at 28) (at 39) "any") ∷ [])
+      (make (at 46) (Some (maybe (at 54) (at 65) "any")) (name (at 70) "x") None [] ∷ []) ∷ []))
+      ≡ breach "b" "f" code.Vgci 1 (at 46) "any" ∷ []
+  -- kept, the attached form of the type of the target: class B feature f local x: detachable ANY do create x end
+  -- end
+  pub target_marked :
+      alone
+      (declares (at 7) "b"
+      (routine_of (name (at 17) "f") [] None
+      (group (name (at 25) "x" ∷ []) (maybe (at 28) (at 39) "any") ∷ [])
+      (make (at 46) None (name (at 53) "x") None [] ∷ []) ∷ []))
+      ≡ []
+  -- VGCI.2: class B feature f local x: C do create x end end
+  pub deferred :
+      body_faults
+      ((declares (at 7) "b"
+      (routine_of (name (at 17) "f") [] None (group (name (at 25) "x" ∷ []) (plain (at 28) "c") ∷ [])
+      (make (at 33) None (name (at 40) "x") None [] ∷ []) ∷ []))
+      ∷ deferred_class ∷ [])
+      ≡ breach "b" "f" code.Vgci 2 (at 33) "c" ∷ []
+  -- VGCI.3: class B feature f local x: INTEGER do create x end end
+  pub basic :
+      alone
+      (declares (at 7) "b"
+      (routine_of (name (at 17) "f") [] None (group (name (at 25) "x" ∷ []) (plain (at 28) "integer") ∷ [])
+      (make (at 39) None (name (at 46) "x") None [] ∷ []) ∷ []))
+      ≡ breach "b" "f" code.Vgci 3 (at 39) "integer" ∷ []
+  -- VGCI.4: class B feature f local x: C do create x.h end end
+  pub no_creator :
+      body_faults
+      ((declares (at 7) "b"
+      (routine_of (name (at 17) "f") [] None (group (name (at 25) "x" ∷ []) (plain (at 28) "c") ∷ [])
+      (make (at 33) None (name (at 40) "x") (Some (name (at 42) "h")) [] ∷ []) ∷ []))
+      ∷ closed_class ∷ [])
+      ≡ breach "b" "f" code.Vgci 4 (at 33) "h" ∷ []
+  -- none is named: class B feature f local x: C do create x end end
+  pub no_default_creator :
+      body_faults
+      ((declares (at 7) "b"
+      (routine_of (name (at 17) "f") [] None (group (name (at 25) "x" ∷ []) (plain (at 28) "c") ∷ [])
+      (make (at 33) None (name (at 40) "x") None [] ∷ []) ∷ []))
+      ∷ closed_class ∷ [])
+      ≡ breach "b" "f" code.Vgci 4 (at 33) "default_create" ∷ []
+  -- VGCI.5: class B feature f local x: STRING do create {ANY} x end end
+  pub unfit :
+      alone
+      (declares (at 7) "b"
+      (routine_of (name (at 17) "f") [] None (group (name (at 25) "x" ∷ []) (plain (at 28) "string") ∷ [])
+      (make (at 38) (Some (plain (at 46) "any")) (name (at 51) "x") None [] ∷ []) ∷ []))
+      ≡ breach "b" "f" code.Vgci 5 (at 38) "x" ∷ []
+  -- kept: class B feature f local x: ANY do create {C} x.make end end
+  pub creator :
+      body_faults
+      ((declares (at 7) "b"
+      (routine_of (name (at 17) "f") [] None (group (name (at 25) "x" ∷ []) (plain (at 28) "any") ∷ [])
+      (make (at 35) (Some (plain (at 43) "c")) (name (at 46) "x") (Some (name (at 48) "make")) [] ∷ [])
+      ∷ []))
+      ∷ closed_class ∷ [])
+      ≡ []
+  -- VUAR.1: class B feature f local x: C do create x.make (1) end end
+  pub wrong_count :
+      body_faults
+      ((declares (at 7) "b"
+      (routine_of (name (at 17) "f") [] None (group (name (at 25) "x" ∷ []) (plain (at 28) "c") ∷ [])
+      (make (at 33) None (name (at 40) "x") (Some (name (at 42) "make")) (int (at 48) 1 ∷ []) ∷ [])
+      ∷ []))
+      ∷ closed_class ∷ [])
+      ≡ breach "b" "f" code.Vuar 1 (at 42) "make" ∷ []
+  -- VUAR.2: with the actuals of the type put in: class B feature f local x: ARRAY [STRING] do create x.make_filled
+  -- (1, 0, 0) end end
+  pub wrong_argument :
+      alone
+      (declares (at 7) "b"
+      (routine_of (name (at 17) "f") [] None
+      (group (name (at 25) "x" ∷ [])
+      (written (at 28) (at 28) Plain "array" (plain (at 35) "string" ∷ [])) ∷ [])
+      (make (at 46) None (name (at 53) "x") (Some (name (at 55) "make_filled"))
+      (int (at 68) 1 ∷ int (at 71) 0 ∷ int (at 74) 0 ∷ []) ∷ []) ∷ []))
+      ≡ breach "b" "f" code.Vuar 2 (at 68) "make_filled" ∷ []
+  -- kept: class B feature f local x: ARRAY [INTEGER] do create x.make_filled (1, 0, 0) end end
+  pub right_argument :
+      alone
+      (declares (at 7) "b"
+      (routine_of (name (at 17) "f") [] None
+      (group (name (at 25) "x" ∷ [])
+      (written (at 28) (at 28) Plain "array" (plain (at 35) "integer" ∷ [])) ∷ [])
+      (make (at 47) None (name (at 54) "x") (Some (name (at 56) "make_filled"))
+      (int (at 69) 1 ∷ int (at 72) 0 ∷ int (at 75) 0 ∷ []) ∷ []) ∷ []))
+      ≡ []
+
+-- creation expressions
+pub record ExpressionExamples : Type 0 where
+  -- VGCE.1: class B [G] feature f do print (create {G}) end end
+  pub formal_type :
+      alone
+      (record (bare_class (at 7) (codes "b")) {
+        formals = formal (at 10) "g" None ∷ [];
+        features =
+            features no_clients
+            (procedure (name (at 21) "f")
+            (inss_from
+            (call (apply (at 26) "print" (new (at 33) (plain (at 41) "g") None [] ∷ [])) ∷ [])) ∷ [])
+            ∷ [];
+      })
+      ≡ breach "b" "f" code.Vgce 1 (at 33) "g" ∷ []
+  -- written with the mark detachable: print (create {detachable ANY})
+  pub marked :
+      alone
+      (f_does (call (apply (at 22) "print" (new (at 29) (maybe (at 37) (at 48) "any") None [] ∷ [])) ∷ []))
+      ≡ breach "b" "f" code.Vgce 1 (at 29) "any" ∷ []
+  -- VGCE.2: print (create {C})
+  pub deferred :
+      body_faults
+      ((f_does (call (apply (at 22) "print" (new (at 29) (plain (at 37) "c") None [] ∷ [])) ∷ []))
+      ∷ deferred_class ∷ [])
+      ≡ breach "b" "f" code.Vgce 2 (at 29) "c" ∷ []
+  -- VGCE.3: print (create {INTEGER})
+  pub basic :
+      alone (f_does (call (apply (at 22) "print" (new (at 29) (plain (at 37) "integer") None [] ∷ [])) ∷ []))
+      ≡ breach "b" "f" code.Vgce 3 (at 29) "integer" ∷ []
+  -- VGCE.4: print (create {C}.h)
+  pub no_creator :
+      body_faults
+      ((f_does
+      (call (apply (at 22) "print" (new (at 29) (plain (at 37) "c") (Some (name (at 40) "h")) [] ∷ []))
+      ∷ []))
+      ∷ closed_class ∷ [])
+      ≡ breach "b" "f" code.Vgce 4 (at 29) "h" ∷ []
+  -- none is named: print (create {C})
+  pub no_default_creator :
+      body_faults
+      ((f_does (call (apply (at 22) "print" (new (at 29) (plain (at 37) "c") None [] ∷ [])) ∷ []))
+      ∷ closed_class ∷ [])
+      ≡ breach "b" "f" code.Vgce 4 (at 29) "default_create" ∷ []
+  -- kept: print (create {C}.make)
+  pub creator :
+      body_faults
+      ((f_does
+      (call (apply (at 22) "print" (new (at 29) (plain (at 37) "c") (Some (name (at 40) "make")) [] ∷ []))
+      ∷ []))
+      ∷ closed_class ∷ [])
+      ≡ []

@@ -1,0 +1,15 @@
+pub mod CallExamples
+pub mod CreationExamples
+pub mod EntityExamples
+pub mod FactExamples
+pub mod FactsByTree
+pub mod FlowExamples
+pub mod KnownLocalExamples
+pub mod LongTypeExamples
+pub mod OperatorExamples
+pub mod PairExamples
+pub mod PlacedTexts
+pub mod PlainFactExamples
+pub mod SystemExamples
+pub mod TargetExamples
+pub mod TestExamples

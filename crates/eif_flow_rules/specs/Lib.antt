@@ -1,0 +1,12 @@
+pub mod CallPaths
+pub mod CreationFaults
+pub mod FieldSets
+pub mod FlowSteps
+pub mod FlowTrees
+pub mod FollowedBodies
+pub mod MetNeeds
+pub mod NeedsAndSets
+pub mod Summaries
+pub mod SummaryLaws
+pub mod TestLocals
+pub mod VersionFlows

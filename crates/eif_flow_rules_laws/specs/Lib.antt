@@ -1,0 +1,4 @@
+pub mod SelfCallExamples
+pub mod CreationTexts
+pub mod CreatorExamples
+pub mod NameExamples
