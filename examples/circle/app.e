@@ -1,0 +1,9 @@
+class APP
+inherit
+  BASE
+create make
+feature
+  make
+    do
+    end
+end

@@ -1,0 +1,4 @@
+class BASE
+inherit
+  APP
+end
