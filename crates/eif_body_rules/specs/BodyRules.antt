@@ -18,7 +18,7 @@ use Rattle.eif_system.specs.Universe.{universe}
 use Rattle.eif_system.specs.WrittenTypes.{feature_name, invariant_name}
 use Rattle.eif_rules.specs.FaultForms.{fault_where}
 use Rattle.eif_body_rules.specs.EntityRules.{arguments_of, locals_of, entity_faults}
-use Rattle.eif_body_rules.specs.InstructionRules.{assertion_faults, compound_faults}
+use Rattle.eif_body_rules.specs.InstructionFaults.{assertion_faults, compound_faults}
 use Rattle.eif_body_rules.specs.LocalFlow.{set_after_all}
 use Rattle.eif_body_rules.specs.Settings.{Setting, Entity, fault, result_name}
 

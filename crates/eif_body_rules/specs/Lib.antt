@@ -5,7 +5,7 @@ pub mod CreationRules
 pub mod EntityRules
 pub mod ExpressionTypes
 pub mod Facts
-pub mod InstructionRules
+pub mod InstructionFaults
 pub mod Judgements
 pub mod KnownFacts
 pub mod LocalFlow

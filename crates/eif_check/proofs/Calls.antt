@@ -6,6 +6,7 @@ use Rattle.eif_tree.specs.View.{exs_from}
 use Rattle.eif_tree.specs.Members.{called_by}
 
 -- a call with arguments is none of those that a plain class has
-pub called_by-more : (p : Place) (n : List ℕ) (es : List Ex) → (length es == 0) ≡ false → called_by (call (unqualified p n (exs_from es))) ≡ []
+pub called_by-more : (p : Place) (n : List ℕ) (es : List Ex) → (length es == 0) ≡ false →
+    called_by (call (unqualified p n (exs_from es))) ≡ []
 called_by-more p n [] e = cc
 called_by-more p n (x ∷ es) e = refl

@@ -9,6 +9,7 @@ pub no_assertions_are : (es : List Ex) → no_assertions (exs_from es) ≡ (leng
 no_assertions_are [] = refl
 no_assertions_are (e ∷ es) = search rules
 
-pub plain_call_is : (p : Place) (n : List ℕ) (es : List Ex) → is_plain_call (call (unqualified p n (exs_from es))) ≡ (length es == 0)
+pub plain_call_is : (p : Place) (n : List ℕ) (es : List Ex) →
+    is_plain_call (call (unqualified p n (exs_from es))) ≡ (length es == 0)
 plain_call_is p n [] = refl
 plain_call_is p n (e ∷ es) = search rules

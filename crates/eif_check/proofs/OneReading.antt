@@ -17,7 +17,8 @@ use Rattle.eif_check.specs.TextFaults.{syntax_fault, GrammarGives, TokensGive, L
 module _ (list : TokenList) where
   one_place : (p q : Place) → IsSyntaxFault list p → IsSyntaxFault list q → p ≡ q
   one_place p q a b =
-      a.is_place ∙ ap (left_place list.end) (one_front TextPart list.tokens a.left b.left a.past b.past) ∙ sym b.is_place
+      a.is_place ∙ ap (left_place list.end) (one_front TextPart list.tokens a.left b.left a.past b.past)
+      ∙ sym b.is_place
 
   -- a class text has no syntax fault
   no_fault : (c : ClassT) (p : Place) → OnlyText list.tokens c → IsSyntaxFault list p → ⊥
@@ -46,8 +47,8 @@ one_reading file text a b e e' = of_text file text (tokens_of file text) a b e e
 -- ---- systems
 
 -- an item of a list that is as long
-pub partner : {A B : Type 0} (xs : List A) (ys : List B) (i : ℕ) (x : A) → length ys ≡ length xs → slice_get xs i ≡ Some x →
-    (y : B) × (slice_get ys i ≡ Some y)
+pub partner : {A B : Type 0} (xs : List A) (ys : List B) (i : ℕ) (x : A) → length ys ≡ length xs →
+    slice_get xs i ≡ Some x → (y : B) × (slice_get ys i ≡ Some y)
 partner [] ys i x long e = cc
 partner (x ∷ xs) [] i z long e = absurd (omega arith)
 partner (x ∷ xs) (y ∷ ys) zero z long e = (y, refl)
@@ -66,12 +67,12 @@ pub no_text_fault : (texts : List (List ℕ)) (given : List ClassT) → AreClass
     TextsBroken texts f → ⊥
 no_text_fault texts given are f broken =
     let c = partner texts given broken.i broken.x are.long broken.at in
-    let e : Ok c.0 ≡ Err f = one_reading broken.i broken.x (Ok c.0) (Err f) (are.each broken.i broken.x c.0 broken.at c.1)
-    broken.judged in
+    let e : Ok c.0 ≡ Err f = one_reading broken.i broken.x (Ok c.0) (Err f)
+    (are.each broken.i broken.x c.0 broken.at c.1) broken.judged in
     cc
 
-pub same_classes : (texts : List (List ℕ)) (given other : List ClassT) → AreClasses texts given → AreClasses texts other →
-    other ≡ given
+pub same_classes : (texts : List (List ℕ)) (given other : List ClassT) → AreClasses texts given →
+    AreClasses texts other → other ≡ given
 same_classes texts given other are others =
     let long = are.long in
     let also = others.long in

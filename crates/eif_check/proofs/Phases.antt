@@ -28,7 +28,7 @@ has_in list more e = record {
 }
 
 pub none_in : (list : List Fault) → list ≡ [] → IsNone (In list)
-none_in list e f h = let n = h.0 in let at = h.1 in absurd (no_item n f (subst (λ xs. slice_get xs n ≡ Some f) e at))
+none_in list e f h = absurd (no_item h.0 f (subst (λ xs. slice_get xs h.0 ≡ Some f) e h.1))
   where
     no_item : (i : ℕ) (f : Fault) → slice_get [] i ≡ Some f → ⊥
     no_item i f e = cc
@@ -57,8 +57,8 @@ later_has list A B none h = record {
 }
 
 -- a sorted list of the faults
-pub lists_all : (names : List (List ℕ)) (old new : List Fault) (B : Fault → Type 0) → Has old B → Lists names new (In old) →
-    Lists names new B
+pub lists_all : (names : List (List ℕ)) (old new : List Fault) (B : Fault → Type 0) → Has old B →
+    Lists names new (In old) → Lists names new B
 lists_all names old new B h l = record {
   in_order = l.in_order;
   only = λ f i. h.only f (l.only f i);
@@ -83,7 +83,8 @@ fault_at (Ok c ∷ rs) i f e = let k = fault_at rs i f e in (suc k.0, k.1)
 fault_at (Err g ∷ rs) zero f e = let same : g ≡ f = cc in (zero, ap (λ g. Some (Err g)) same)
 fault_at (Err g ∷ rs) (suc i) f e = let k = fault_at rs i f e in (suc k.0, k.1)
 
-fault_listed : (rs : List (Result ClassT Fault)) (k : ℕ) (f : Fault) → slice_get rs k ≡ Some (Err f) → In (faults_in rs) f
+fault_listed : (rs : List (Result ClassT Fault)) (k : ℕ) (f : Fault) → slice_get rs k ≡ Some (Err f) →
+    In (faults_in rs) f
 fault_listed [] k f e = cc
 fault_listed (Ok c ∷ rs) zero f e = cc
 fault_listed (Ok c ∷ rs) (suc k) f e = fault_listed rs k f e
@@ -148,8 +149,8 @@ module _ (texts : List (List ℕ)) (p : Parsed) (h : IsParsed 0 texts p) where
   tree_count none = sym (length-map p.trees.items class_view) ∙ (classes_are none).long
 
 -- the faults of the classes that the texts are
-pub system_has : (texts : List (List ℕ)) (given : List ClassT) (root : Root) (list : List Fault) → AreClasses texts given →
-    Has list (SystemBroken given root) → Has list (Broken texts root)
+pub system_has : (texts : List (List ℕ)) (given : List ClassT) (root : Root) (list : List Fault) →
+    AreClasses texts given → Has list (SystemBroken given root) → Has list (Broken texts root)
 system_has texts given root list are h = record {
   only = λ f i. inr (given, are, h.only f i);
   each = λ f b. ⊎_elim (λ t. absurd (no_text_fault texts given are f t))

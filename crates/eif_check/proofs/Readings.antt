@@ -8,7 +8,7 @@ use Rattle.std.specs.List.{flat_map}
 use Rattle.eif_base.specs.declared.Fault.{Fault}
 use Rattle.eif_base.specs.declared.Memory.{Memory}
 use Rattle.eif_par.specs.Pieces.{ArePieces}
-use Rattle.eif_par.proofs.Fronts.{all_pieces, length-range, range_next, range_none}
+use Rattle.eif_par.proofs.Fronts.{all_pieces, length-range, range_next}
 use Rattle.eif_par.proofs.Joins.{take_range}
 use Rattle.eif_tree.specs.Tree.{ClassT}
 use Rattle.eif_tree.specs.View.{class_view}
@@ -113,98 +113,91 @@ row_append first xs ys cs ds fs gs a b = record {
 
 -- ---- the files of a piece
 
-pub starts : (first : ℕ) (texts : List (List ℕ)) (p : Parsed) → p.trees.items ≡ [] → p.faults ≡ [] →
-    IsParsed first (slice_range texts first first) p
-starts first texts p no_trees no_faults =
-    subst (λ xs. IsParsed first xs p) (sym (range_none texts first))
-    (parsed_of first [] [] [] p (ap (map class_view) no_trees) no_faults (row_none first))
-
 -- one more text
 added : (first : ℕ) (texts : List (List ℕ)) (text : List ℕ) (p q : Parsed) (r : Result ClassT Fault) →
-    TextGives (first + length texts) text r → HasAdded r p q → IsParsed first texts p → IsParsed first (texts ++ text ∷ []) q
+    TextGives (first + length texts) text r → HasAdded r p q → IsParsed first texts p →
+    IsParsed first (texts ++ text ∷ []) q
 added first texts text p q (Ok c) gives adds h =
-    parsed_of first (texts ++ text ∷ []) (map class_view p.trees.items ++ c ∷ []) (p.faults ++ []) q adds.0
+    let classes = map class_view p.trees.items in
+    parsed_of first (texts ++ text ∷ []) (classes ++ c ∷ []) (p.faults ++ []) q adds.0
     (adds.1 ∙ sym (append-nil p.faults))
-    (row_append first texts (text ∷ []) (map class_view p.trees.items) (c ∷ []) p.faults [] (row_of first texts p h)
+    (row_append first texts (text ∷ []) classes (c ∷ []) p.faults [] (row_of first texts p h)
     (row_one (first + length texts) text (Ok c) gives))
 added first texts text p q (Err f) gives adds h =
-    parsed_of first (texts ++ text ∷ []) (map class_view p.trees.items ++ []) (p.faults ++ f ∷ []) q
-    (adds.0 ∙ sym (append-nil (map class_view p.trees.items))) adds.1
-    (row_append first texts (text ∷ []) (map class_view p.trees.items) [] p.faults (f ∷ []) (row_of first texts p h)
+    let classes = map class_view p.trees.items in
+    parsed_of first (texts ++ text ∷ []) (classes ++ []) (p.faults ++ f ∷ []) q
+    (adds.0 ∙ sym (append-nil classes)) adds.1
+    (row_append first texts (text ∷ []) classes [] p.faults (f ∷ []) (row_of first texts p h)
     (row_one (first + length texts) text (Err f) gives))
 
 pub goes_on : (first file : ℕ) (texts : List (List ℕ)) (text : List ℕ) (p q : Parsed) → first ≤ file →
-    slice_get texts file ≡ Some text → AddsText file text p q →
-    IsParsed first (slice_range texts first file) p → IsParsed first (slice_range texts first (file + 1)) q
+    slice_get texts file ≡ Some text → AddsText file text p q → IsParsed first (slice_range texts first file) p →
+    IsParsed first (slice_range texts first (file + 1)) q
 goes_on first file texts text p q le at adds h =
+    let range = slice_range texts first file in
     let within = slice_get_within texts file text at in
     let long = length-range texts first file (omega arith) in
-    let here : file ≡ first + length (slice_range texts first file) = omega arith in
+    let here : file ≡ first + length range = omega arith in
     subst (λ xs. IsParsed first xs q) (sym (range_next texts first file text le at))
-    (added first (slice_range texts first file) text p q adds.0 (subst (λ k. TextGives k text adds.0) here adds.1) adds.2 h)
+    (added first range text p q adds.0 (subst (λ k. TextGives k text adds.0) here adds.1) adds.2 h)
 
 -- ---- the pieces
 
-map-flat_map : (ps : List Parsed) → map class_view (flat_map (λ p. p.trees.items) ps) ≡ flat_map (λ p. map class_view p.trees.items) ps
+abbrev classes_of : Parsed → List ClassT
+classes_of p = map class_view p.trees.items
+
+abbrev faults_of : Parsed → List Fault
+faults_of p = p.faults
+
+-- what the first texts are, of so many pieces
+abbrev FrontIs : List (List ℕ) → ℕ → List Parsed → Type 0
+FrontIs texts n front = Row 0 (take n texts) (flat_map classes_of front) (flat_map faults_of front)
+
+-- what a piece of the texts is
+abbrev pub PieceIs : List (List ℕ) → ℕ → ℕ → Parsed → Type 0
+PieceIs texts first past piece = IsParsed first (slice_range texts first past) piece
+
+map-flat_map : (ps : List Parsed) → map class_view (flat_map (λ p. p.trees.items) ps) ≡ flat_map classes_of ps
 map-flat_map [] = refl
 map-flat_map (p ∷ ps) =
     map-append class_view p.trees.items (flat_map (λ p. p.trees.items) ps)
-    ∙ ap (λ cs. map class_view p.trees.items ++ cs) (map-flat_map ps)
+    ∙ ap (λ cs. classes_of p ++ cs) (map-flat_map ps)
+
+flat_map-one : {A : Type 0} (f : Parsed → List A) (front : List Parsed) (piece : Parsed) →
+    flat_map f (front ++ piece ∷ []) ≡ flat_map f front ++ f piece
+flat_map-one f front piece =
+    flat_map-append f front (piece ∷ []) ∙ ap (λ xs. flat_map f front ++ xs) (append-nil (f piece))
 
 -- one more piece
 next_piece : (texts : List (List ℕ)) (first past : ℕ) (front : List Parsed) (piece : Parsed) → first ≤ past →
-    past ≤ length texts →
-    Row 0 (take first texts) (flat_map (λ p. map class_view p.trees.items) front) (flat_map (λ p. p.faults) front) →
-    IsParsed first (slice_range texts first past) piece →
-    Row 0 (take past texts) (flat_map (λ p. map class_view p.trees.items) (front ++ piece ∷ []))
-    (flat_map (λ p. p.faults) (front ++ piece ∷ []))
+    past ≤ length texts → FrontIs texts first front → PieceIs texts first past piece →
+    FrontIs texts past (front ++ piece ∷ [])
 next_piece texts first past front piece le within row h =
-    let classes = map class_view piece.trees.items in
-    let first_classes = flat_map (λ p. map class_view p.trees.items) front in
-    let first_faults = flat_map (λ p. p.faults) front in
+    let range = slice_range texts first past in
     let long : length (take first texts) ≡ first = length-take-le first texts (omega arith) in
     let here : first ≡ 0 + length (take first texts) = omega arith in
-    let second : Row (0 + length (take first texts)) (slice_range texts first past) classes piece.faults =
-    subst (λ k. Row k (slice_range texts first past) classes piece.faults) here
-    (row_of first (slice_range texts first past) piece h) in
-    let whole : Row 0 (take first texts ++ slice_range texts first past) (first_classes ++ classes) (first_faults ++ piece.faults) =
-    row_append 0 (take first texts) (slice_range texts first past) first_classes classes first_faults piece.faults row second in
-    let more_classes : first_classes ++ classes ≡ flat_map (λ p. map class_view p.trees.items) (front ++ piece ∷ []) =
-    ap (λ cs. first_classes ++ cs) (sym (append-nil classes))
-    ∙ sym (flat_map-append (λ p. map class_view p.trees.items) front (piece ∷ [])) in
-    let more_faults : first_faults ++ piece.faults ≡ flat_map (λ p. p.faults) (front ++ piece ∷ []) =
-    ap (λ fs. first_faults ++ fs) (sym (append-nil piece.faults)) ∙ sym (flat_map-append (λ p. p.faults) front (piece ∷ [])) in
-    subst (λ xs. Row 0 xs (flat_map (λ p. map class_view p.trees.items) (front ++ piece ∷ []))
-    (flat_map (λ p. p.faults) (front ++ piece ∷ []))) (sym (take_range texts first past le))
-    (subst (λ cs. Row 0 (take first texts ++ slice_range texts first past) cs (flat_map (λ p. p.faults) (front ++ piece ∷ [])))
-    more_classes
-    (subst (λ fs. Row 0 (take first texts ++ slice_range texts first past) (first_classes ++ classes) fs) more_faults whole))
+    let whole = row_append 0 (take first texts) range (flat_map classes_of front) (classes_of piece)
+    (flat_map faults_of front) piece.faults row
+    (subst (λ k. Row k range (classes_of piece) piece.faults) here (row_of first range piece h)) in
+    rw (take_range texts first past le, flat_map-one classes_of front piece, flat_map-one faults_of front piece) whole
 
 -- all pieces together
-pub all_parsed : (texts : List (List ℕ)) (workers : ℕ) (pieces : List Parsed) (whole : Parsed) → 1 ≤ workers →
-    ArePieces (λ first past out. IsParsed first (slice_range texts first past) out) (length texts)
-    (min workers (length texts)) pieces →
-    whole.trees.items ≡ flat_map (λ p. p.trees.items) pieces → whole.faults ≡ flat_map (λ p. p.faults) pieces →
+all_parsed : (texts : List (List ℕ)) (workers : ℕ) (pieces : List Parsed) (whole : Parsed) → 1 ≤ workers →
+    ArePieces (PieceIs texts) (length texts) (min workers (length texts)) pieces →
+    whole.trees.items ≡ flat_map (λ p. p.trees.items) pieces → whole.faults ≡ flat_map faults_of pieces →
     IsParsed 0 texts whole
 all_parsed texts workers pieces whole some are trees_are faults_are =
-    let row : Row 0 (take (length texts) texts) (flat_map (λ p. map class_view p.trees.items) pieces)
-    (flat_map (λ p. p.faults) pieces) =
-    all_pieces (λ first past out. IsParsed first (slice_range texts first past) out)
-    (λ n ps. Row 0 (take n texts) (flat_map (λ p. map class_view p.trees.items) ps) (flat_map (λ p. p.faults) ps))
-    (length texts) pieces (row_none 0)
-    (λ first past front piece le within row h. next_piece texts first past front piece le within row h) workers some are in
+    let row : FrontIs texts (length texts) pieces =
+    all_pieces (PieceIs texts) (FrontIs texts) (length texts) pieces (row_none 0) (next_piece texts) workers some are in
     subst (λ xs. IsParsed 0 xs whole) (take_all (length texts) texts (omega arith))
-    (parsed_of 0 (take (length texts) texts) (flat_map (λ p. map class_view p.trees.items) pieces)
-    (flat_map (λ p. p.faults) pieces) whole (ap (map class_view) trees_are ∙ map-flat_map pieces) faults_are row)
+    (parsed_of 0 (take (length texts) texts) (flat_map classes_of pieces) (flat_map faults_of pieces) whole
+    (ap (map class_view) trees_are ∙ map-flat_map pieces) faults_are row)
 
--- the same of a result
-pub if_parsed : (texts : List (List ℕ)) (workers count : ℕ) (pieces : List Parsed) (r : Result Parsed Memory) → 1 ≤ workers →
-    count ≡ length texts →
-    ArePieces (λ first past out. IsParsed first (slice_range texts first past) out) count (min workers count) pieces →
+pub if_parsed : (texts : List (List ℕ)) (workers count : ℕ) (pieces : List Parsed) (r : Result Parsed Memory) →
+    1 ≤ workers → count ≡ length texts → ArePieces (PieceIs texts) count (min workers count) pieces →
     IfOk r (λ p. p.trees.items ≡ flat_map (λ q. q.trees.items) pieces) →
     IfOk r (λ p. p.faults ≡ flat_map (λ q. q.faults) pieces) → IfOk r (IsParsed 0 texts)
 if_parsed texts workers count pieces (Err e) some count_is are trees faults = tt
 if_parsed texts workers count pieces (Ok whole) some count_is are trees_are faults_are =
     all_parsed texts workers pieces whole some
-    (subst (λ n. ArePieces (λ first past out. IsParsed first (slice_range texts first past) out) n (min workers n) pieces)
-    count_is are) trees_are faults_are
+    (subst (λ n. ArePieces (PieceIs texts) n (min workers n) pieces) count_is are) trees_are faults_are

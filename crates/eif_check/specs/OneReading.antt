@@ -7,7 +7,8 @@ use Rattle.eif_check.specs.TextFaults.{TextGives}
 
 -- a text is one class, or has one fault, and not both
 abbrev pub OneReading : Type 0
-OneReading = (file : ℕ) (text : List ℕ) (a b : Result ClassT Fault) → TextGives file text a → TextGives file text b → a ≡ b
+OneReading =
+    (file : ℕ) (text : List ℕ) (a b : Result ClassT Fault) → TextGives file text a → TextGives file text b → a ≡ b
 
 -- texts that are classes have no fault, and are no other classes
 abbrev pub OneSystem : Type 0

@@ -15,12 +15,13 @@ Reads gives (Ok tree) = gives (Ok (class_view tree))
 Reads gives (Err (error.Fault f)) = gives (Err f)
 Reads gives (Err error.Memory) = Unit {0}
 
+-- the second has this class, or this fault, behind those of the first
 abbrev pub HasAdded : Result ClassT Fault → Parsed → Parsed → Type 0
 HasAdded (Ok c) old new =
     (map class_view new.trees.items ≡ map class_view old.trees.items ++ c ∷ []) × (new.faults ≡ old.faults)
 HasAdded (Err f) old new =
     (map class_view new.trees.items ≡ map class_view old.trees.items) × (new.faults ≡ old.faults ++ f ∷ [])
 
--- the class or the fault of the text stands behind those before
+-- the second has what the text is behind what the first has
 abbrev pub AddsText : ℕ → List ℕ → Parsed → Parsed → Type 0
 AddsText file text old new = (r : Result ClassT Fault) × TextGives file text r × HasAdded r old new

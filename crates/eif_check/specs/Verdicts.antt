@@ -9,8 +9,10 @@ use Rattle.eif_report.specs.Order.{Lists}
 use Rattle.eif_rules.specs.FaultForms.{IsNone}
 use Rattle.eif_check.specs.Systems.{AreClasses, Broken}
 
--- Yes of so many texts where there is no fault, and then each text is a class; else exactly the faults, in the order of a report
+-- Yes of so many texts where there is no fault, and then each text is a class; else exactly the faults, in the order of
+-- a report
 abbrev pub IsVerdict : List NamedText → Root → Verdict → Type 0
 IsVerdict files root (v.Yes n) =
-    (n ≡ length files) × IsNone (Broken (texts_of files) root) × ((given : List ClassT) × AreClasses (texts_of files) given)
+    (n ≡ length files) × IsNone (Broken (texts_of files) root)
+    × ((given : List ClassT) × AreClasses (texts_of files) given)
 IsVerdict files root (v.Faults list) = (list ≢ []) × Lists (names_of files) list (Broken (texts_of files) root)

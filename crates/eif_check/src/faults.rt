@@ -18,7 +18,7 @@ use eif_tree::{ClassTree, FeatureDecl, NameAt};
 use std::alloc::Global;
 
 /// The name of what has none.
-fn no_name(alloc: Global) -> Result<Name, Memory>
+pub(crate) fn no_name(alloc: Global) -> Result<Name, Memory>
     ensures { IfOk result (λ n. n ≡ []) }
 {
     Name::from_bytes(alloc, b"")
@@ -26,7 +26,8 @@ fn no_name(alloc: Global) -> Result<Name, Memory>
 
 /// The fault of a class that is not plain.
 fn not_yet_fault(alloc: Global, class: &ClassTree) -> Result<Fault, Memory>
-    ensures { IfOk result (λ f. let c = class_view class.now in f ≡ fault_at c Code.Xyet 1 c.place []) }
+    ensures { IfOk result (λ f. let c = class_view class.now in
+        f ≡ fault_at c Code.Xyet 1 c.place []) }
 {
     Ok(Fault {
         code: Code::Xyet,

@@ -47,7 +47,8 @@ fn push_declarations<'t>(
     out: &mut Vec<&'t FeatureDecl>,
     decls: &'t [FeatureDecl],
 ) -> Result<(), Memory>
-    ensures { OnOk result (map (λ d. decl_view d.now) out.new.items ≡ map (λ d. decl_view d.now) out.old.items ++ map decl_view decls.now) }
+    ensures { OnOk result (map (λ d. decl_view d.now) out.new.items
+        ≡ map (λ d. decl_view d.now) out.old.items ++ map decl_view decls.now) }
 {
     'decls: for decl in decls {
         out.push(decl)?;
@@ -57,7 +58,8 @@ fn push_declarations<'t>(
 
 /// The declarations of a class, in the order of its text.
 pub fn declarations<'t>(alloc: Global, tree: &'t ClassTree) -> Result<Vec<&'t FeatureDecl>, Memory>
-    ensures { IfOk result (λ v. map (λ d. decl_view d.now) v.items ≡ parts.declarations (class_view tree.now)) }
+    ensures { IfOk result (λ v. map (λ d. decl_view d.now) v.items
+        ≡ parts.declarations (class_view tree.now)) }
 {
     let mut out = Vec::new(alloc);
     'parts: for part in &tree.features {
@@ -71,7 +73,8 @@ pub fn declared_names<'t>(
     alloc: Global,
     decls: &[&'t FeatureDecl],
 ) -> Result<Vec<Mention<'t>>, Memory>
-    ensures { IfOk result (λ v. map name_at v.items ≡ flat_map (λ d. d.names) (map (λ d. decl_view d.now) decls.now)) }
+    ensures { IfOk result (λ v. map name_at v.items
+        ≡ flat_map (λ d. d.names) (map (λ d. decl_view d.now) decls.now)) }
 {
     let mut out = Vec::new(alloc);
     'decls: for decl in decls {
@@ -95,7 +98,8 @@ fn push_creators_clients<'t>(
     out: &mut Vec<Mention<'t>>,
     parts: &'t [CreatorPart],
 ) -> Result<(), Memory>
-    ensures { OnOk result (map name_at out.new.items ≡ map name_at out.old.items ++ flat_map (λ part. part.clients.names) (map creators_view parts.now)) }
+    ensures { OnOk result (map name_at out.new.items ≡ map name_at out.old.items
+        ++ flat_map (λ part. part.clients.names) (map creators_view parts.now)) }
 {
     'parts: for part in parts {
         push_names(out, &part.clients.names)?;
@@ -107,7 +111,8 @@ fn push_features_clients<'t>(
     out: &mut Vec<Mention<'t>>,
     parts: &'t [FeatureClause],
 ) -> Result<(), Memory>
-    ensures { OnOk result (map name_at out.new.items ≡ map name_at out.old.items ++ flat_map (λ part. part.clients.names) (map features_view parts.now)) }
+    ensures { OnOk result (map name_at out.new.items ≡ map name_at out.old.items
+        ++ flat_map (λ part. part.clients.names) (map features_view parts.now)) }
 {
     'parts: for part in parts {
         push_names(out, &part.clients.names)?;
@@ -126,7 +131,8 @@ pub fn client_names<'t>(alloc: Global, tree: &'t ClassTree) -> Result<Vec<Mentio
 }
 
 fn push_called_by<'t>(out: &mut Vec<Mention<'t>>, instr: &'t Instr) -> Result<(), Memory>
-    ensures { OnOk result (map name_at out.new.items ≡ map name_at out.old.items ++ parts.called_by (instr_view instr.now)) }
+    ensures { OnOk result (map name_at out.new.items
+        ≡ map name_at out.old.items ++ parts.called_by (instr_view instr.now)) }
 {
     if let Instr::Call { call } = instr {
         if let ExprKind::Unqualified { name, args } = &call.kind {
@@ -142,7 +148,8 @@ fn push_called_by<'t>(out: &mut Vec<Mention<'t>>, instr: &'t Instr) -> Result<()
 }
 
 fn push_called_in<'t>(out: &mut Vec<Mention<'t>>, body: &'t [Instr]) -> Result<(), Memory>
-    ensures { OnOk result (map name_at out.new.items ≡ map name_at out.old.items ++ parts.called_in (inss_from (map instr_view body.now))) }
+    ensures { OnOk result (map name_at out.new.items ≡ map name_at out.old.items
+        ++ parts.called_in (inss_from (map instr_view body.now))) }
 {
     'body: for instr in body {
         push_called_by(out, instr)?;
@@ -152,7 +159,8 @@ fn push_called_in<'t>(out: &mut Vec<Mention<'t>>, body: &'t [Instr]) -> Result<(
 
 /// Adds the names that a declaration calls.
 pub fn push_called<'t>(out: &mut Vec<Mention<'t>>, decl: &'t FeatureDecl) -> Result<(), Memory>
-    ensures { OnOk result (map name_at out.new.items ≡ map name_at out.old.items ++ parts.called_in (parts.body_of (kind_view decl.now.kind))) }
+    ensures { OnOk result (map name_at out.new.items ≡ map name_at out.old.items
+        ++ parts.called_in (parts.body_of (kind_view decl.now.kind))) }
 {
     match &decl.kind {
         FeatureKind::Routine { body, .. } => push_called_in(out, body),

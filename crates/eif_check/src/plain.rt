@@ -80,7 +80,8 @@ fn are_plain_declarations(decls: &[FeatureDecl]) -> bool
 
 /// Whether these features parts have plain declarations alone.
 fn are_plain_parts(parts: &[FeatureClause]) -> bool
-    ensures { result ≡ list_all plain.is_plain_declaration (flat_map (λ part. part.decls) (map features_view parts.now)) }
+    ensures { result ≡ list_all plain.is_plain_declaration
+        (flat_map (λ part. part.decls) (map features_view parts.now)) }
 {
     'parts: for part in parts {
         if !are_plain_declarations(&part.decls) {
@@ -143,7 +144,8 @@ fn names_no_kernel_feature(names: &[Mention<'_>]) -> bool
 
 /// Whether each name of the list is declared.
 fn are_declared(names: &[Mention<'_>], declared: &[Mention<'_>]) -> bool
-    ensures { result ≡ list_all (λ n. parts.has_name (map name_at declared.now) n.name) (map name_at names.now) }
+    ensures { result ≡ list_all (λ n. parts.has_name (map name_at declared.now) n.name)
+        (map name_at names.now) }
 {
     'names: for mention in names {
         if !has_name(declared, mention.name) {
@@ -154,7 +156,8 @@ fn are_declared(names: &[Mention<'_>], declared: &[Mention<'_>]) -> bool
 }
 
 fn called_names<'t>(alloc: Global, decls: &[&'t FeatureDecl]) -> Result<Vec<Mention<'t>>, Memory>
-    ensures { IfOk result (λ v. map name_at v.items ≡ plain.called_by_all (map (λ d. decl_view d.now) decls.now)) }
+    ensures { IfOk result (λ v. map name_at v.items
+        ≡ plain.called_by_all (map (λ d. decl_view d.now) decls.now)) }
 {
     let mut out = Vec::new(alloc);
     'decls: for decl in decls {
@@ -171,7 +174,8 @@ fn has_plain_names(
     called: &[Mention<'_>],
     clients: &[Mention<'_>],
 ) -> bool
-    ensures { result ≡ plain.has_plain_names name.now (map name_at creators.now) (map name_at declared.now) (map name_at called.now) (map name_at clients.now) }
+    ensures { result ≡ plain.has_plain_names name.now (map name_at creators.now)
+        (map name_at declared.now) (map name_at called.now) (map name_at clients.now) }
 {
     are_distinct(declared)
         && are_declared(creators, declared)

@@ -169,9 +169,8 @@ fn two_pieces_meet_at_the_gate(rt: HostRuntime) -> Result<(), Fail> {
 
 /// A class of that name with an expression in 398 parentheses, the most that may be.
 fn deep_class(alloc: Global, name: &str) -> Result<String, Memory> {
-    let mut text = format!(in alloc;
-        "class {name} create make feature make local b: BOOLEAN do b := "
-    )?;
+    let mut text = format!(in alloc; "class {name} create make feature make local b: BOOLEAN")?;
+    text.push_str(" do b := ")?;
     for _ in 0..398 {
         text.push('(')?;
     }

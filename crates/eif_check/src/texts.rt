@@ -8,6 +8,7 @@ ghost use Rattle.eif_check.specs.Parsed.{IsParsed};
 ghost use Rattle.eif_check.specs.TextFaults.{ListGives, TextGives};
 ghost use Rattle.eif_check.specs.TextReads.{AddsText, Reads};
 
+use crate::faults::no_name;
 use eif_base::limits::{MOST_BYTES, MOST_WORKERS};
 use eif_base::{Code, Fault, FaultList, FileList, Gate, Memory, Name, Place};
 use eif_lex::{LexError, Tokens, lex};
@@ -43,8 +44,8 @@ fn text_fault(alloc: Global, code: Code, place: Place, about: Name) -> Result<Fa
     Ok(Fault {
         code,
         case: 1,
-        class: Name::from_bytes(alloc, b"")?,
-        feature: Name::from_bytes(alloc, b"")?,
+        class: no_name(alloc)?,
+        feature: no_name(alloc)?,
         place,
         about,
     })
@@ -54,7 +55,7 @@ fn text_fault(alloc: Global, code: Code, place: Place, about: Name) -> Result<Fa
 fn nameless_fault(alloc: Global, code: Code, place: Place) -> Result<Fault, Memory>
     ensures { IfOk result (λ f. f ≡ fault_of_text code place []) }
 {
-    text_fault(alloc, code, place, Name::from_bytes(alloc, b"")?)
+    text_fault(alloc, code, place, no_name(alloc)?)
 }
 
 /// The class that the tokens are.

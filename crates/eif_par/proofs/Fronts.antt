@@ -38,8 +38,7 @@ length-range xs a b le =
 module _ {X : Type 0} (gives : ℕ → ℕ → X → Type 0) (Q : ℕ → List X → Type 0) (count : ℕ) (outs : List X)
     (none : Q 0 [])
     (more : (first past : ℕ) (front : List X) (out : X) → first ≤ past → past ≤ count → Q first front →
-        gives first past out → Q past (front ++ out ∷ [])) where
-
+    gives first past out → Q past (front ++ out ∷ [])) where
   front_is : (pieces n : ℕ) → 0 < pieces → n ≤ pieces → ArePieces gives count pieces outs →
       Q (piece_start count pieces n) (take n outs)
   front_is pieces zero some le all =
@@ -49,10 +48,10 @@ module _ {X : Type 0} (gives : ℕ → ℕ → X → Type 0) (Q : ℕ → List X
       let piece = all.each n (omega arith) in
       let rise = starts_rise count pieces n (n + 1) some (omega arith) in
       let within : piece_start count pieces (n + 1) ≤ count =
-          subst (λ k. piece_start count pieces (n + 1) ≤ k) (last_end count pieces some)
-          (starts_rise count pieces (n + 1) pieces some (omega arith)) in
+      subst (λ k. piece_start count pieces (n + 1) ≤ k) (last_end count pieces some)
+      (starts_rise count pieces (n + 1) pieces some (omega arith)) in
       let next = more (piece_start count pieces n) (piece_start count pieces (n + 1)) (take n outs) piece.0 rise within
-          (front_is pieces n some (omega arith) all) piece.2 in
+      (front_is pieces n some (omega arith) all) piece.2 in
       subst (λ front. Q (piece_start count pieces (suc n)) front) (sym (take_next outs n piece.0 piece.1))
       (subst (λ k. Q (piece_start count pieces k) (take n outs ++ piece.0 ∷ [])) (add-one n) next)
 
@@ -66,9 +65,11 @@ module _ {X : Type 0} (gives : ℕ → ℕ → X → Type 0) (Q : ℕ → List X
           (subst (λ front. Q (piece_start count (min workers count) (min workers count)) front)
           (take_all (min workers count) outs (omega (arith, all.count_is)))
           (front_is (min workers count) (min workers count) n (omega arith) all))
+
       empty : (xs : List X) → length xs ≡ 0 → [] ≡ xs
       empty [] e = refl
       empty (x ∷ xs) e = absurd (omega arith)
+
       no_item : min workers count ≤ 0 → Q count outs
       no_item n =
           let z : 0 ≡ count = omega arith in

@@ -14,7 +14,8 @@ returns-then-not-is_empty c =
     let list = c.push_not_yet.new.out in
     let first = flat_map not_yet given in
     let later = FirstOf (In (root_procedure_faults given c.args.root.now)) (In (flat_map unknown_names_in given)) in
-    let are : list ≡ first = c.in_ok-push_not_yet.ensures ∙ ap (λ (xs : List Fault). xs ++ first) c.new-faults.ensures in
+    let are : list ≡ first =
+    c.in_ok-push_not_yet.ensures ∙ ap (λ (xs : List Fault). xs ++ first) c.new-faults.ensures in
     first_has list (In first) later (not_empty c.is_empty.result list c.is_empty.ensures.1 c.if-not-is_empty.true)
     (has_in list first are)
 

@@ -18,7 +18,8 @@ returns g c =
     let names = names_of c.args.files.now in
     let broken = Broken (texts_of c.args.files.now) c.args.root.now in
     let old = c.in_ok-faults.faults in
-    let new = c.sort_faults.new.list in (
-      lists_some names old new (not_empty c.is_empty.result old c.is_empty.ensures.1 c.if-is_empty.false) c.sort_faults.ensures,
+    let new = c.sort_faults.new.list in
+    let some = not_empty c.is_empty.result old c.is_empty.ensures.1 c.if-is_empty.false in (
+      lists_some names old new some c.sort_faults.ensures,
       lists_all names old new broken c.in_ok-faults.ensures.faults c.sort_faults.ensures,
     )

@@ -28,7 +28,8 @@ returns-clause-faults g c =
     let are : AreClasses texts (map class_view parsed.trees.items) =
     classes_are texts parsed c.in_ok-trees.ensures (c.is_empty.ensures.0 c.if-not-is_empty.false) in
     IfOk-weaker c.system_faults.result _ _
-    (λ list has. system_has texts (map class_view parsed.trees.items) c.args.root.now list are has) c.system_faults.ensures
+    (λ list has. system_has texts (map class_view parsed.trees.items) c.args.root.now list are has)
+    c.system_faults.ensures
 
 pub returns-clause-classes : goal.returns-clause-classes
 returns-clause-classes g c =
@@ -36,4 +37,5 @@ returns-clause-classes g c =
     let parsed = c.in_ok-trees.field-0 in
     let are : AreClasses texts (map class_view parsed.trees.items) =
     classes_are texts parsed c.in_ok-trees.ensures (c.is_empty.ensures.0 c.if-not-is_empty.false) in
-    IfOk-weaker c.system_faults.result _ _ (λ list has none. (map class_view parsed.trees.items, are)) c.system_faults.ensures
+    IfOk-weaker c.system_faults.result _ _ (λ list has none. (map class_view parsed.trees.items, are))
+    c.system_faults.ensures

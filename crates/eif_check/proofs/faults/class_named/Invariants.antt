@@ -6,4 +6,5 @@ use Rattle.eif_check.proofs.faults.class_named.Given as goal
 
 abbrev pub invariant-classes : goal.invariant-classes
 invariant-classes l =
-    find (λ c. bytes_eq c.name l.name) (map class_view (drop l.class-index l.given)) ≡ find (λ c. bytes_eq c.name l.name) (map class_view l.given)
+    find (λ c. bytes_eq c.name l.name) (map class_view (drop l.class-index l.given))
+    ≡ find (λ c. bytes_eq c.name l.name) (map class_view l.given)

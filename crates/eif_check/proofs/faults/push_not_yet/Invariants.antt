@@ -6,4 +6,5 @@ use Rattle.eif_check.proofs.faults.push_not_yet.Given as goal
 
 abbrev pub invariant-classes : goal.invariant-classes
 invariant-classes l =
-    l.out ++ flat_map not_yet (map class_view (drop l.class-index l.given)) ≡ l.initial.out ++ flat_map not_yet (map class_view l.given)
+    l.out ++ flat_map not_yet (map class_view (drop l.class-index l.given))
+    ≡ l.initial.out ++ flat_map not_yet (map class_view l.given)

@@ -7,5 +7,6 @@ use Rattle.eif_check.proofs.faults.push_unknown.Given as goal
 
 abbrev pub invariant-called : goal.invariant-called
 invariant-called l =
-    l.out ++ flat_map (unknown_name (class_view l.class) (map name_at l.declared) (decl_view l.decl)) (map name_at (drop l.mention-index l.called))
-    ≡ l.initial.out ++ flat_map (unknown_name (class_view l.class) (map name_at l.declared) (decl_view l.decl)) (map name_at l.called)
+    let faults_of = unknown_name (class_view l.class) (map name_at l.declared) (decl_view l.decl) in
+    l.out ++ flat_map faults_of (map name_at (drop l.mention-index l.called))
+    ≡ l.initial.out ++ flat_map faults_of (map name_at l.called)

@@ -7,5 +7,6 @@ use Rattle.eif_check.proofs.faults.push_unknown_of.Given as goal
 
 abbrev pub invariant-decls : goal.invariant-decls
 invariant-decls l =
-    l.out ++ flat_map (unknown_names (class_view l.class) (map name_at l.declared.items)) (map (λ d. decl_view d.now) (drop l.decl-index l.decl-items))
-    ≡ l.initial.out ++ flat_map (unknown_names (class_view l.class) (map name_at l.declared.items)) (map (λ d. decl_view d.now) l.decl-items)
+    let faults_of = unknown_names (class_view l.class) (map name_at l.declared.items) in
+    l.out ++ flat_map faults_of (map (λ d. decl_view d.now) (drop l.decl-index l.decl-items))
+    ≡ l.initial.out ++ flat_map faults_of (map (λ d. decl_view d.now) l.decl-items)

@@ -6,5 +6,6 @@ use Rattle.eif_check.proofs.mention.creator_names.Given as goal
 
 abbrev pub invariant-parts : goal.invariant-parts
 invariant-parts l =
-    map name_at l.out.items ++ flat_map (λ part. part.names) (map creators_view (drop l.part-index l.tree.creators.items))
+    map name_at l.out.items
+    ++ flat_map (λ part. part.names) (map creators_view (drop l.part-index l.tree.creators.items))
     ≡ flat_map (λ part. part.names) (map creators_view l.tree.creators.items)

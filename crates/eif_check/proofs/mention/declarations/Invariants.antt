@@ -5,5 +5,6 @@ use Rattle.eif_check.proofs.mention.declarations.Given as goal
 
 abbrev pub invariant-parts : goal.invariant-parts
 invariant-parts l =
-    map (λ d. decl_view d.now) l.out.items ++ flat_map (λ part. part.decls) (map features_view (drop l.part-index l.tree.features.items))
+    map (λ d. decl_view d.now) l.out.items
+    ++ flat_map (λ part. part.decls) (map features_view (drop l.part-index l.tree.features.items))
     ≡ flat_map (λ part. part.decls) (map features_view l.tree.features.items)

@@ -15,8 +15,11 @@ pub returns-else-is_empty : goal.returns-else-is_empty
 returns-else-is_empty c =
     let args = c.in-Unqualified.args.items in
     let out = map name_at c.args.out.now.items in
-    let seen : instr_view c.args.instr.now ≡ call (unqualified c.in-Call.call.place c.in-Unqualified.name (exs_from (map expr_view args))) = search (rules, instr_lemmas, expr_lemmas, kind_lemmas) in
+    let seen : instr_view c.args.instr.now
+    ≡ call (unqualified c.in-Call.call.place c.in-Unqualified.name (exs_from (map expr_view args))) =
+    search (rules, instr_lemmas, expr_lemmas, kind_lemmas) in
     let size : length args ≡ vec_len c.in-Unqualified.args = sym c.in-Unqualified.args.ok.0 in
-    let some : (length (map expr_view args) == 0) ≡ false = rw length-map (ap (λ n. n == 0) size ∙ sym c.is_empty.ensures ∙ c.if-is_empty.false) in
+    let some : (length (map expr_view args) == 0) ≡ false =
+    rw length-map (ap (λ n. n == 0) size ∙ sym c.is_empty.ensures ∙ c.if-is_empty.false) in
     let none = called_by-more c.in-Call.call.place c.in-Unqualified.name (map expr_view args) some in
     sym (append-nil out) ∙ ap (λ more. out ++ more) (sym none ∙ ap called_by (sym seen))

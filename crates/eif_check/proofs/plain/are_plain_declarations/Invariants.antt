@@ -5,4 +5,6 @@ use Rattle.eif_rules.specs.PlainClasses.{is_plain_declaration}
 use Rattle.eif_check.proofs.plain.are_plain_declarations.Given as goal
 
 abbrev pub invariant-decls : goal.invariant-decls
-invariant-decls l = list_all is_plain_declaration (map decl_view (drop l.decl-index l.decls)) ≡ list_all is_plain_declaration (map decl_view l.decls)
+invariant-decls l =
+    list_all is_plain_declaration (map decl_view (drop l.decl-index l.decls))
+    ≡ list_all is_plain_declaration (map decl_view l.decls)

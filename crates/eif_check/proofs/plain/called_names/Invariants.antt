@@ -6,4 +6,5 @@ use Rattle.eif_check.proofs.plain.called_names.Given as goal
 
 abbrev pub invariant-decls : goal.invariant-decls
 invariant-decls l =
-    map name_at l.out.items ++ called_by_all (map (λ d. decl_view d.now) (drop l.decl-index l.decls)) ≡ called_by_all (map (λ d. decl_view d.now) l.decls)
+    map name_at l.out.items ++ called_by_all (map (λ d. decl_view d.now) (drop l.decl-index l.decls))
+    ≡ called_by_all (map (λ d. decl_view d.now) l.decls)

@@ -7,4 +7,5 @@ use Rattle.eif_check.proofs.plain.no_assertions.Goals as goal
 pub returns : goal.returns
 returns c =
     let claims = c.args.claims.now in
-    c.is_empty.ensures ∙ sym (no_assertions_are (map assertion_view claims) ∙ ap (λ n. n == 0) (length-map claims assertion_view))
+    c.is_empty.ensures
+    ∙ sym (no_assertions_are (map assertion_view claims) ∙ ap (λ n. n == 0) (length-map claims assertion_view))

@@ -5,4 +5,4 @@ use Rattle.eif_check.specs.Limits.{AreShort}
 use Rattle.eif_check.proofs.tests.files_of.Given as goal
 
 abbrev pub invariant-texts : goal.invariant-texts
-invariant-texts l = (length l.files ≤ MOST_FILES) × AreShort (texts_of l.files)
+invariant-texts g l = (length l.files ≤ MOST_FILES) × AreShort (texts_of l.files)

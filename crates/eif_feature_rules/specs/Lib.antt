@@ -1,0 +1,14 @@
+pub mod ClauseRules
+pub mod CreatorRules
+pub mod DeclarationRules
+pub mod DerivationRules
+pub mod FeaturePhases
+pub mod FeatureRules
+pub mod JoinRules
+pub mod NamesUsed
+pub mod ParentFeatures
+pub mod RedeclarationRules
+pub mod ReplicationRules
+pub mod RuleForms
+pub mod SelectionRules
+pub mod SignaturePairs

@@ -1,0 +1,10 @@
+pub mod ClauseExamples
+pub mod CreatorRuleExamples
+pub mod DeclarationExamples
+pub mod DerivationExamples
+pub mod FoundFaults
+pub mod PlacedClasses
+pub mod RedeclarationExamples
+pub mod VersionExamples
+pub mod WorkedSystems
+pub mod WorkedVersions

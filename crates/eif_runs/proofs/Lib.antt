@@ -1,0 +1,4 @@
+pub mod EndlessRun
+pub mod LongTexts
+pub mod RunsGrow
+pub mod StepsGrow
