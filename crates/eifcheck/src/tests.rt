@@ -71,14 +71,20 @@ const COMPLAINTS: [(Status, Option<&str>); 7] = [
     (Status::TooLarge, Some("the input is too large")),
 ];
 
-/// The words, and behind them a number of workers.
-fn owned(alloc: Global, words: &[&str], workers: &str) -> Result<Vec<String>, AllocError> {
+/// The words as the program gets them.
+fn strings(alloc: Global, words: &[&str]) -> Result<Vec<String>, AllocError> {
     let mut all = Vec::new(alloc);
-    all.push(String::from_str(alloc, "--workers")?)?;
-    all.push(String::from_str(alloc, workers)?)?;
     for word in words {
         all.push(String::from_str(alloc, word)?)?;
     }
+    Ok(all)
+}
+
+/// The words, and behind them a number of workers.
+fn owned(alloc: Global, words: &[&str], workers: &str) -> Result<Vec<String>, AllocError> {
+    let mut all = strings(alloc, words)?;
+    all.push(String::from_str(alloc, "--workers")?)?;
+    all.push(String::from_str(alloc, workers)?)?;
     Ok(all)
 }
 
@@ -275,10 +281,7 @@ fn wrong_words<R: Threads + Sync>(
     rows: &[&[&str]],
 ) -> Result<Option<usize>, Fail> {
     for i in 0..rows.len() {
-        let mut words = Vec::new(alloc);
-        for word in rows[i] {
-            words.push(String::from_str(alloc, word)?)?;
-        }
+        let words = strings(alloc, rows[i])?;
         let mut texts = mem_texts(alloc, &[("app.e", APP)])?;
         texts.fail(1)?;
         if !ends_so(rt, alloc, &words, &mut texts, Status::Usage, b"")? {

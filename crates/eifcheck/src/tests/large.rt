@@ -83,7 +83,7 @@ fn a_file_may_have_a_mebibyte(rt: HostRuntime) -> Result<(), Fail> {
 fn mebibytes(alloc: Global, count: usize) -> Result<System, Memory> {
     let mut system = new_system(alloc, &["--root", "app.make", "--workers", "2"])?;
     app(alloc, &mut system, 1_048_576)?;
-    for i in 1..count + 1 {
+    for i in 0..count {
         let name = format!(in alloc; "k{i}.e")?;
         let text = format!(in alloc; "class K{i} create make feature make do end end")?;
         add(alloc, &mut system, name, text.as_bytes(), 1_048_576)?;
