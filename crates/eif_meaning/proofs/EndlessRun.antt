@@ -1,17 +1,36 @@
 -- A procedure that calls itself is cut off at every bound.
-use Rattle.std.proofs.Common.{◌≡◌, ℕ, zero, suc, List, [], ◌∷◌, refl, ap}
-use Rattle.eif_meaning.specs.Values.{Store, Outcome, cut_off, after}
-use Rattle.eif_meaning.specs.System.{system_of}
-use Rattle.eif_meaning.specs.Run.{unfinished, ran, new_object, level}
-use Rattle.eif_meaning.specs.RunExamples.{app, make, calling, procedure, app_with, run_app, endless}
-use Rattle.eif_tree.specs.Tree.{no_inss}
+use Rattle.std.proofs.Common.{◌≡◌, ℕ, zero, suc, [], ◌∷◌, refl, ap}
+use Rattle.std.specs.Prelude.{codes}
+use Rattle.eif_system.specs.Kernel.{kernel}
+use Rattle.eif_system.specs.Lineage.{line_of}
+use Rattle.eif_classes.specs.Types.{no_actuals}
+use Rattle.eif_meaning.specs.Values.{reference, Outcome, cut_off, after}
+use Rattle.eif_meaning.specs.System.{System, system_of}
+use Rattle.eif_meaning.specs.Frames.{Body}
+use Rattle.eif_meaning.specs.Run.{ran, level, root_store}
+use Rattle.eif_meaning.specs.BodyTexts.{the, perform}
+use Rattle.eif_meaning.specs.RunSystems.{making, app}
+use Rattle.eif_meaning.specs.BoundedRuns.{calls_itself, EndlessIsCutOff}
 
-after_cut : {A B : Type 0} (o : Outcome A) (f : Store → A → Outcome B) (w : List ℕ) → o ≡ cut_off w → after o f ≡ cut_off w
-after_cut o f w e = ap (λ q. after q f) e
+after_cut : {S T A B : Type 0} (o : Outcome S A) (f : S → A → Outcome T B)
+    → o ≡ cut_off [] → after o f ≡ cut_off []
+after_cut o f e = ap (λ q. after q f) e
 
-level_endless : (n : ℕ) → level (system_of (app_with endless ∷ [])) n 0 app (procedure make (calling make no_inss)) (record { heap = new_object app ∷ []; printed = [] }) ≡ cut_off []
-level_endless zero = refl
-level_endless (suc n) = after_cut _ _ [] (after_cut _ _ [] (after_cut _ _ [] (level_endless n)))
+abbrev system : System
+system = system_of (app calls_itself ∷ [])
 
-pub run_endless : (n : ℕ) → run_app n endless ≡ unfinished []
-run_endless n = ap ran (level_endless n)
+abbrev body : Body
+body = record {
+  declaration = record { class_number = 6; name = codes "make"; tree = making [] (perform (the "make") ∷ []) };
+  actuals = no_actuals;
+}
+
+level_is_cut_off : (t n : ℕ) → level system t n (reference 0) body [] (root_store system 6) ≡ cut_off []
+unfolding kernel line_of
+level_is_cut_off t zero = refl
+level_is_cut_off t (suc n) =
+    after_cut _ _ (after_cut _ _ (after_cut _ _ (after_cut _ _ (after_cut _ _ (after_cut _ _ (level_is_cut_off t n))))))
+
+pub endless_is_cut_off : EndlessIsCutOff
+unfolding kernel line_of
+endless_is_cut_off n = ap ran (level_is_cut_off n n)

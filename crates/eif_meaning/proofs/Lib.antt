@@ -1,2 +1,4 @@
-pub mod GrowthLemmas
 pub mod EndlessRun
+pub mod LongTexts
+pub mod RunsGrow
+pub mod StepsGrow

@@ -1,56 +1,67 @@
--- What a run does. It goes over trees; the call of a routine is handed to `again`, which has one level less.
--- A form that has no meaning in this version goes wrong as a missing feature.
-use Rattle.std.specs.Prelude.{ℕ, zero, suc, if◌then◌else◌, List, [], ◌∷◌, Option, Some, None, slice_get}
-use Rattle.eif_tree.specs.Tree.{Ex, unqualified, no_exs, Ins, call, Inss, no_inss, and_ins, GroupT, KindT, routine, DeclT}
-use Rattle.eif_meaning.specs.Values.{Value, Object, Wrong, no_feature, Outcome, done, stopped, cut_off, wrong, Does, ◌>>=◌, give, fail, some_or}
-use Rattle.eif_meaning.specs.System.{Origin, System}
+-- The run of a system: bodies at levels, from the root on.
+use Rattle.std.specs.Prelude.{ℕ, zero, suc, if◌then◌else◌, List, [], ◌∷◌, Option, Some, None}
+use Rattle.eif_tree.specs.Tree.{TypeT, KindT, constant, routine}
+use Rattle.eif_classes.specs.Entries.{Declaration}
+use Rattle.eif_classes.specs.Types.{no_actuals}
+use Rattle.eif_meaning.specs.Values.{Value, reference, Store, Wrong, unset, no_feature, Outcome, done, stopped, cut_off, wrong, Does, after, ◌>>=◌, give, fail, some_or, need}
+use Rattle.eif_meaning.specs.KernelBodies.{BuiltIn}
+use Rattle.eif_meaning.specs.System.{System}
+use Rattle.eif_meaning.specs.Objects.{new_object}
+use Rattle.eif_meaning.specs.Frames.{Body, Runner, Frame, argument_names, arguments_by, first_state}
+use Rattle.eif_meaning.specs.Calls.{run_declaration}
+use Rattle.eif_meaning.specs.BuiltIns.{run_built_in}
+use Rattle.eif_meaning.specs.Evaluation.{evaluate_literal}
+use Rattle.eif_meaning.specs.Execution.{execute_all}
 
--- the run of a routine on an object: the object, the class of its text, its declaration; no value where it is no function
-abbrev pub Runner : Type 0
-Runner = ℕ → List ℕ → DeclT → Does (Option Value)
+-- ---- bodies
 
--- where a text runs
-pub record Frame : Type 0 where
-  pub system : System
-  pub again : Runner
-  -- the object that is Current
-  pub current : ℕ
-  -- the class of the text
-  pub class_name : List ℕ
+-- a function gives its `Result` at its end
+abbrev pub finish : Option TypeT → Does (Option Value)
+finish None = give None
+finish (Some t) = λ s. some_or unset s.result (λ v. give (Some v)) s
 
-abbrev pub object_at : ℕ → Does Object
-object_at r s = some_or no_feature (slice_get s.heap r) give s
+-- a written body; a constant gives its literal
+abbrev pub run_written : Frame → KindT → Does (Option Value)
+run_written c (routine locals body) = execute_all c body >>= (λ _. finish c.tree.result_type)
+run_written c (constant x) = (evaluate_literal x >>= need) >>= (λ v. give (Some v.value))
+run_written c _ = fail no_feature
 
-abbrev pub call_origin : Frame → Option Origin → Does (Option Value)
-call_origin c None = fail no_feature
-call_origin c (Some o) = c.again c.current o.class_name o.declaration
+-- a body that is built in or written
+abbrev pub run_code : Frame → List Value → Option BuiltIn → Does (Option Value)
+run_code c vs None = run_written c c.tree.kind
+run_code c vs (Some b) = run_built_in c b vs
 
--- a feature of Current, by its name in the text
-abbrev pub call_on_current : Frame → List ℕ → Does (Option Value)
-call_on_current c x =
-    object_at c.current >>= (λ o. some_or no_feature (c.system.bind o.class_name c.class_name x) (λ n. call_origin c (c.system.origin o.class_name n)))
+-- the frame of a body on a value
+abbrev pub frame : System → ℕ → Runner → Value → Body → List Value → Frame
+frame system turns again v b vs = record {
+  system = system;
+  turns = turns;
+  again = again;
+  current = v;
+  body = b;
+  argument = arguments_by (argument_names b.tree) vs;
+}
 
--- the value of an expression, or none of a call without result
-abbrev pub evaluate : Frame → Ex → Does (Option Value)
-evaluate c (unqualified p x no_exs) = call_on_current c x
-evaluate c _ = fail no_feature
+-- bodies with so many levels of calls, and so many turns of each loop: a call past the last level is cut off
+abbrev pub level : System → ℕ → ℕ → Runner
+level system turns zero v b vs s = cut_off s.printed
+level system turns (suc n) v b vs s =
+    after (run_code (frame system turns (level system turns n) v b vs) vs (system.built_in b.class_number b.name)
+    (first_state system b s)) (λ t a. done t.store a)
 
-abbrev pub execute : Frame → Ins → Does (Unit {0})
-execute c (call e) = evaluate c e >>= (λ _. give tt)
-execute c _ = fail no_feature
+-- ---- the root
 
-abbrev pub execute_all : Frame → Inss → Does (Unit {0})
-execute_all c no_inss = give tt
-execute_all c (and_ins i is) = execute c i >>= (λ _. execute_all c is)
+-- one object of the root class, which has no formals
+abbrev pub root_store : System → ℕ → Store
+root_store system d = record {
+  heap = new_object system (record { class_number = d; actuals = no_actuals }) ∷ [];
+  printed = [];
+}
 
-abbrev pub run_body : Frame → List GroupT → KindT → Does (Option Value)
-run_body c [] (routine [] is) = execute_all c is >>= (λ _. give None)
-run_body c _ _ = fail no_feature
-
--- A routine with so many levels of calls. Past the last one it is cut off.
-abbrev pub level : System → ℕ → Runner
-level system zero r k d = λ s. cut_off s.printed
-level system (suc n) r k d = run_body (record { system = system; again = level system n; current = r; class_name = k }) d.arguments d.kind
+-- the call of the root procedure, which has level 1
+abbrev pub run_root : ℕ → System → ℕ → Option Declaration → Outcome Store (Option Value)
+run_root n system d None = wrong no_feature []
+run_root n system d (Some x) = run_declaration system (level system n n) (reference 0) x [] (root_store system d)
 
 -- how a run ended, with the bytes printed
 pub data Ran : Type 0 where
@@ -59,31 +70,32 @@ pub data Ran : Type 0 where
   unfinished : List ℕ → Ran
   went_wrong : Wrong → List ℕ → Ran
 
-abbrev pub ran : {A : Type 0} → Outcome A → Ran
+-- the end of an outcome
+abbrev pub ran : {A : Type 0} → Outcome Store A → Ran
 ran (done s a) = finished s.printed
 ran (stopped w) = halted w
 ran (cut_off w) = unfinished w
 ran (wrong k w) = went_wrong k w
 
--- an object of the class with no field set
-abbrev pub new_object : List ℕ → Object
-new_object class_name = record { class_name = class_name; field = λ _. None }
+-- the creation of the root class, where it may have instances
+abbrev pub run_class : ℕ → System → List ℕ → Option ℕ → Ran
+run_class n system procedure None = went_wrong no_feature []
+run_class n system procedure (Some d) =
+    if system.is_creatable d then ran (run_root n system d (system.origin d procedure))
+    else went_wrong no_feature []
 
-abbrev pub create_by : System → ℕ → List ℕ → Option Origin → Outcome (Option Value)
-create_by system n class_name None = wrong no_feature []
-create_by system n class_name (Some o) = level system n 0 o.class_name o.declaration (record { heap = new_object class_name ∷ []; printed = [] })
-
--- the run that creates the root class by the root procedure, whose call has level 1, with at most n levels
+-- the creation of the root class by the root procedure, with at most n levels of calls and n turns of each loop
 abbrev pub run : ℕ → System → List ℕ → List ℕ → Ran
-run n system class_name procedure =
-    if system.is_effective class_name then ran (create_by system n class_name (system.origin class_name procedure)) else went_wrong no_feature []
+run n system class_name procedure = run_class n system procedure (system.class_named class_name)
 
+-- the run went wrong
 abbrev pub IsWrong : Ran → Type 0
 IsWrong (finished w) = ⊥
 IsWrong (halted w) = ⊥
 IsWrong (unfinished w) = ⊥
 IsWrong (went_wrong k w) = Unit {0}
 
+-- the run was cut off at its bound
 abbrev pub IsUnfinished : Ran → Type 0
 IsUnfinished (finished w) = ⊥
 IsUnfinished (halted w) = ⊥

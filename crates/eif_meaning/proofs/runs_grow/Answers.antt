@@ -1,4 +1,4 @@
-use Rattle.eif_meaning.proofs.GrowthLemmas.{run_grows}
+use Rattle.eif_meaning.proofs.RunsGrow.{run_grows}
 use Rattle.eif_meaning.proofs.runs_grow.Goals as goal
 
 pub returns : goal.returns

@@ -1,4 +1,0 @@
-pub mod EndlessRun
-pub mod LongTexts
-pub mod RunsGrow
-pub mod StepsGrow
