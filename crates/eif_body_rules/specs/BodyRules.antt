@@ -7,11 +7,10 @@ use Rattle.eif_base.specs.Appends.{In}
 use Rattle.eif_base.specs.declared.code.Code.TheVariants as code
 use Rattle.eif_base.specs.declared.fault.Fault.{Fault}
 use Rattle.eif_tree.specs.declared.tree.NameAt.{NameAt}
-use Rattle.eif_tree.specs.Members.{declarations}
+use Rattle.eif_tree.specs.Members.{declarations, is_among, result_name}
 use Rattle.eif_tree.specs.Tree.{Inss, KindT, routine, DeclT, ClassT}
 use Rattle.eif_system.specs.Kernel.{kernel_count}
 use Rattle.eif_system.specs.Lineage.{line_of}
-use Rattle.eif_classes.specs.Names.{is_among}
 use Rattle.eif_classes.specs.Resolution.{resolved}
 use Rattle.eif_classes.specs.Types.{TyT, is_self_initialising}
 use Rattle.eif_system.specs.Universe.{universe}
@@ -20,7 +19,7 @@ use Rattle.eif_rules.specs.FaultForms.{fault_where}
 use Rattle.eif_body_rules.specs.EntityRules.{arguments_of, locals_of, entity_faults}
 use Rattle.eif_body_rules.specs.InstructionFaults.{assertion_faults, compound_faults}
 use Rattle.eif_body_rules.specs.LocalFlow.{set_after_all}
-use Rattle.eif_body_rules.specs.Settings.{Setting, Entity, fault, result_name}
+use Rattle.eif_body_rules.specs.Settings.{Setting, Entity, fault}
 
 -- ---- where the parts of the class c, which has the number d, stand
 

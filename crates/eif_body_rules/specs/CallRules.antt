@@ -18,7 +18,7 @@ use Rattle.eif_classes.specs.Types.{TyT, Actuals, no_actuals, name_count}
 use Rattle.eif_rules.specs.FaultForms.{fault_where}
 use Rattle.eif_body_rules.specs.Facts.{Fact, is_known_attached}
 use Rattle.eif_body_rules.specs.Judgements.{Judged, fine, untyped, broken, unless}
-use Rattle.eif_body_rules.specs.Settings.{Setting, fault, fits, result_name, Meaning, test_local, entity, feature, unknown, meaning, seen_type}
+use Rattle.eif_body_rules.specs.Settings.{Setting, fault, fits, Meaning, test_local, entity, feature, unknown, meaning, seen_type}
 
 -- an argument where it stands, with its type
 pub record Argument : Type 0 where

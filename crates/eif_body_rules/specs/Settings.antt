@@ -1,5 +1,5 @@
 -- Where an expression stands, and what its names denote there.
-use Rattle.std.specs.Prelude.{ℕ, Bool, false, if◌then◌else◌, List, Option, Some, None, is_some, codes}
+use Rattle.std.specs.Prelude.{ℕ, Bool, false, if◌then◌else◌, List, Option, Some, None, is_some}
 use Rattle.std.specs.List.{find}
 use Rattle.std.specs.Option.{option_map_or}
 use Rattle.std.specs.Str.{bytes_eq}
@@ -42,10 +42,6 @@ fault s code case place about = fault_in s.text s.feature code case place about
 -- a type conforms to another in the class
 abbrev pub fits : Setting → TyT → TyT → Bool
 fits s a b = conforms s.universe s.number a b
-
--- the name of the target `Result`
-abbrev pub result_name : List ℕ
-result_name = codes "result"
 
 -- ---- names
 

@@ -13,7 +13,7 @@ use Rattle.eif_rules.specs.FaultForms.{fault_where}
 use Rattle.eif_body_rules.specs.CallRules.{result_rule}
 use Rattle.eif_body_rules.specs.Facts.{Fact}
 use Rattle.eif_body_rules.specs.Judgements.{Judged, fine, broken}
-use Rattle.eif_body_rules.specs.Settings.{Setting, fault, fits, result_name, Meaning, test_local, entity, feature, unknown, meaning}
+use Rattle.eif_body_rules.specs.Settings.{Setting, fault, fits, Meaning, test_local, entity, feature, unknown, meaning}
 
 -- the declared type, where the target is resolved and has one; a test's local has none
 abbrev pub meant_type : Meaning → Option TyT

@@ -3,11 +3,11 @@ use Rattle.std.specs.Prelude.{ℕ, Bool, true, false, List, [], ◌++◌, map, O
 use Rattle.std.specs.List.{filter, find}
 use Rattle.std.specs.Option.{option_map, option_and_then}
 use Rattle.std.specs.Str.{bytes_eq}
-use Rattle.eif_tree.specs.Members.{has_name, declarations, declared_names}
+use Rattle.eif_tree.specs.Members.{has_name, declarations, declared_names, is_among}
 use Rattle.eif_tree.specs.Tree.{ParentT, KindT, attribute, deferred_body, DeclT, ClassT}
 use Rattle.eif_classes.specs.Entries.{Declaration, Origin, deferred, declared_as, Feature, Entry, entry, entries_of, lasts, joined, leading}
 use Rattle.eif_system.specs.Lineage.{Line, line, cut, Ups, up, top}
-use Rattle.eif_classes.specs.Names.{name_set, is_among}
+use Rattle.eif_classes.specs.Names.{name_set}
 
 -- the first declaration of the name
 abbrev pub declaration_of : ClassT → List ℕ → Option DeclT

@@ -2,7 +2,7 @@
 use Rattle.std.specs.Prelude.{ℕ, Bool, false, not, if◌then◌else◌, List, [], ◌∷◌, Option, Some, None}
 use Rattle.std.specs.declared.cmp.Ordering.{Ordering}
 use Rattle.std.specs.Cmp.Lexicographic.{slice_cmp}
-use Rattle.std.specs.List.{list_any, list_all}
+use Rattle.std.specs.List.{list_all}
 use Rattle.std.specs.Ordering.{nat_cmp}
 use Rattle.std.specs.Str.{bytes_eq}
 use Rattle.eif_tree.specs.declared.tree.RenamePair.{RenamePair}
@@ -17,10 +17,6 @@ name_cmp = slice_cmp nat_cmp
 -- the set of these names: in order, each once
 abbrev pub name_set : List (List ℕ) → List (List ℕ)
 name_set ns = in_order name_cmp ns
-
--- one of the names is this one
-abbrev pub is_among : List (List ℕ) → List ℕ → Bool
-is_among ns n = list_any (λ m. bytes_eq m n) ns
 
 -- two of them differ
 abbrev pub are_several : List (List ℕ) → Bool

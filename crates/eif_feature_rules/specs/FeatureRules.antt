@@ -3,12 +3,11 @@ use Rattle.std.specs.Prelude.{ℕ, nat_lt, not, ◌&&◌, List, [], ◌∷◌, �
 use Rattle.eif_base.specs.declared.code.Code.TheVariants as code
 use Rattle.eif_base.specs.declared.fault.Fault.{Fault}
 use Rattle.eif_tree.specs.declared.tree.NameAt.{NameAt}
-use Rattle.eif_tree.specs.Members.{has_name, declared_names}
+use Rattle.eif_tree.specs.Members.{has_name, declared_names, is_among}
 use Rattle.eif_tree.specs.Tree.{ParentT, ClassT}
 use Rattle.eif_classes.specs.Entries.{Origin, deferred, clashing, Feature}
 use Rattle.eif_classes.specs.Features.{names}
 use Rattle.eif_system.specs.Lineage.{Line, line_of}
-use Rattle.eif_classes.specs.Names.{is_among}
 use Rattle.eif_rules.specs.FaultForms.{fault_at, fault_of, fault_where}
 use Rattle.eif_feature_rules.specs.ClauseRules.{each_listed, clause_faults}
 use Rattle.eif_feature_rules.specs.ParentFeatures.{parent_features, final_names}

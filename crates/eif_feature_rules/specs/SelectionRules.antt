@@ -4,13 +4,13 @@ use Rattle.std.specs.List.{filter, list_any}
 use Rattle.eif_base.specs.declared.code.Code.TheVariants as code
 use Rattle.eif_base.specs.declared.fault.Fault.{Fault}
 use Rattle.eif_tree.specs.declared.tree.NameAt.{NameAt}
-use Rattle.eif_tree.specs.Members.{has_name}
+use Rattle.eif_tree.specs.Members.{has_name, is_among}
 use Rattle.eif_tree.specs.Tree.{ParentT, ClassT}
 use Rattle.eif_classes.specs.Binding.{candidates, is_selected_in}
 use Rattle.eif_classes.specs.Features.{names}
 use Rattle.eif_system.specs.Inheritance.{clauses}
 use Rattle.eif_system.specs.Lineage.{Line, Ups, line_of}
-use Rattle.eif_classes.specs.Names.{name_set, is_among, are_several, agreed}
+use Rattle.eif_classes.specs.Names.{name_set, are_several, agreed}
 use Rattle.eif_rules.specs.FaultForms.{fault_at, fault_where}
 use Rattle.eif_feature_rules.specs.ClauseRules.{each_listed}
 use Rattle.eif_feature_rules.specs.ParentFeatures.{parent_features, final_names}

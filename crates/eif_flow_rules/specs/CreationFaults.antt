@@ -12,7 +12,7 @@ use Rattle.eif_classes.specs.Creators.{default_creator}
 use Rattle.eif_classes.specs.Entries.{Declaration}
 use Rattle.eif_system.specs.Kernel.{kernel_count}
 use Rattle.eif_system.specs.Lineage.{Line, line_of}
-use Rattle.eif_classes.specs.Names.{is_among}
+use Rattle.eif_tree.specs.Members.{is_among}
 use Rattle.eif_system.specs.TreeForms.{named}
 use Rattle.eif_system.specs.Universe.{universe}
 use Rattle.eif_rules.specs.FaultForms.{fault_in}

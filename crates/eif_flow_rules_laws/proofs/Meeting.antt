@@ -8,7 +8,7 @@ use Rattle.std.proofs.lemmas.Slice.Eq.{bytes_eq-Decides}
 use Rattle.eif_base.specs.declared.place.Place.{Place}
 use Rattle.eif_tree.specs.declared.tree.NameAt.{NameAt}
 use Rattle.eif_classes.specs.Entries.{Declaration}
-use Rattle.eif_classes.specs.Names.{is_among}
+use Rattle.eif_tree.specs.Members.{is_among}
 use Rattle.eif_system.specs.TreeForms.{named}
 use Rattle.eif_flow_rules.specs.CallPaths.{IsOneOf, leads_within, IsClosed}
 use Rattle.eif_flow_rules.specs.CreationFaults.{each_at, unset_needs}
@@ -156,10 +156,10 @@ module _ (p : Place) (s : FieldSet) where
       subst (λ b. map (named p) (cond b (y ∷ filter s ys) (filter s ys)) ≡ []) e h in
       cc
   step y ys rest h n a k false e =
-      elim (or_cases (bytes_eq y n) (is_among ys n) a) [
+      elim (or_cases (bytes_eq n y) (is_among ys n) a) [
         | inl l ↦
-            let q = (bytes_eq-Decides y n).0 l in
-            let z : true ≡ false = sym k ∙ (ap s (sym q) ∙ e) in
+            let q = (bytes_eq-Decides n y).0 l in
+            let z : true ≡ false = sym k ∙ (ap s q ∙ e) in
             cc
         | inr m ↦ rest (subst (λ b. map (named p) (cond b (y ∷ filter s ys) (filter s ys)) ≡ []) e h) n m k
       ]

@@ -1,16 +1,13 @@
 -- What an assignment or a creation sets: its target, and the type that a creation takes from it.
-use Rattle.std.specs.Prelude.{ℕ, if◌then◌else◌, List, Option, Some, None, codes}
+use Rattle.std.specs.Prelude.{ℕ, if◌then◌else◌, List, Option, Some, None}
 use Rattle.std.specs.Option.{option_map}
 use Rattle.std.specs.Str.{bytes_eq}
+use Rattle.eif_tree.specs.Members.{result_name}
 use Rattle.eif_tree.specs.Tree.{TypeT}
 use Rattle.eif_classes.specs.Types.{TyT}
 use Rattle.eif_meaning.specs.Values.{Value, Object, Seen, State, no_feature, done, Does, ◌>>=◌, fail, some_or}
 use Rattle.eif_meaning.specs.Objects.{set_at, result_type, field_type, object_at, replace_object}
 use Rattle.eif_meaning.specs.Frames.{Frame, written_type, Entity, argument, local, entity}
-
--- the name of a target `Result`
-abbrev pub result_name : List ℕ
-result_name = codes "result"
 
 -- ---- what is set; an argument, a test local and a routine take nothing
 

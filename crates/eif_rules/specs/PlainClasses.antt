@@ -3,8 +3,7 @@ use Rattle.std.specs.Prelude.{ℕ, ◌==◌, Bool, true, false, not, ◌&&◌, L
 use Rattle.std.specs.List.{list_all}
 use Rattle.eif_tree.specs.declared.NameAt.{NameAt}
 use Rattle.eif_tree.specs.Tree.{Exs, no_exs, Ins, Inss, call, unqualified, no_inss, and_ins, KindT, routine, DeclT, CreatorsT, ClassT}
-use Rattle.eif_tree.specs.Members.{has_name, declarations, declared_names, creator_names, body_of, called_in}
-use Rattle.eif_rules.specs.UniverseRules.{is_among}
+use Rattle.eif_tree.specs.Members.{has_name, is_among, declarations, declared_names, creator_names, body_of, called_in}
 
 -- ---- the form
 

@@ -12,6 +12,7 @@ use Rattle.eif_base.specs.declared.root.Root.{Root}
 use Rattle.eif_base.specs.Appends.{In, SomeOf}
 use Rattle.eif_tree.specs.declared.tree.Mark.{Mark}
 use Rattle.eif_tree.specs.declared.tree.Mark.TheVariants.{Detachable}
+use Rattle.eif_tree.specs.Members.{is_among}
 use Rattle.eif_tree.specs.Tree.{TypeT, FormalT, ParentT, ClassT}
 use Rattle.eif_system.specs.Kernel.{kernel, kernel_count, basic_names}
 use Rattle.eif_system.specs.TreeForms.{nowhere}
@@ -47,9 +48,6 @@ wrong_count u c feature t =
 abbrev pub is_detachable : Mark → Bool
 is_detachable Detachable = true
 is_detachable _ = false
-
-abbrev pub is_among : List (List ℕ) → List ℕ → Bool
-is_among names n = list_any (bytes_eq n) names
 
 -- XMRK.1: INTEGER, BOOLEAN or CHARACTER is marked detachable
 abbrev pub wrong_mark : ClassT → List ℕ → TypeT → List Fault

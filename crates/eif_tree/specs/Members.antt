@@ -1,5 +1,5 @@
 -- What a class text says, by its parts.
-use Rattle.std.specs.Prelude.{ℕ, Bool, List, [], ◌∷◌, ◌++◌, flat_map}
+use Rattle.std.specs.Prelude.{ℕ, Bool, List, [], ◌∷◌, ◌++◌, flat_map, codes}
 use Rattle.std.specs.List.{list_any}
 use Rattle.std.specs.Str.{bytes_eq}
 use Rattle.eif_tree.specs.declared.tree.NameAt.{NameAt}
@@ -8,6 +8,14 @@ use Rattle.eif_tree.specs.Tree.{Ins, call, Inss, no_inss, and_ins, unqualified, 
 -- one of them has that name
 abbrev pub has_name : List NameAt → List ℕ → Bool
 has_name names name = list_any (λ n. bytes_eq n.name name) names
+
+-- one of the names is this one
+abbrev pub is_among : List (List ℕ) → List ℕ → Bool
+is_among names name = list_any (bytes_eq name) names
+
+-- the name of the target `Result`
+abbrev pub result_name : List ℕ
+result_name = codes "result"
 
 -- the declarations of a class, in the order of its text
 abbrev pub declarations : ClassT → List DeclT
