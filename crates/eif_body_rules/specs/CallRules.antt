@@ -8,6 +8,7 @@ use Rattle.eif_base.specs.declared.fault.Fault.{Fault}
 use Rattle.eif_base.specs.declared.limits.TheConstants.{MOST_TYPE_NAMES}
 use Rattle.eif_base.specs.declared.place.Place.{Place}
 use Rattle.eif_tree.specs.declared.tree.NameAt.{NameAt}
+use Rattle.eif_tree.specs.Members.{result_name}
 use Rattle.eif_classes.specs.Clients.{is_available}
 use Rattle.eif_classes.specs.Constraints.{base_type, base_class, is_attached}
 use Rattle.eif_system.specs.Lineage.{Line, line_by, line_of}

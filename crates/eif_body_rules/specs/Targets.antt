@@ -7,6 +7,7 @@ use Rattle.eif_base.specs.declared.code.Code.TheVariants as code
 use Rattle.eif_base.specs.declared.fault.Fault.{Fault}
 use Rattle.eif_base.specs.declared.place.Place.{Place}
 use Rattle.eif_tree.specs.declared.tree.NameAt.{NameAt}
+use Rattle.eif_tree.specs.Members.{result_name}
 use Rattle.eif_classes.specs.Features.{origin, is_field}
 use Rattle.eif_classes.specs.Types.{TyT}
 use Rattle.eif_rules.specs.FaultForms.{fault_where}
