@@ -1,2 +1,4 @@
 pub mod Adding
+mod Keys
+pub mod Numbered
 mod Remaining

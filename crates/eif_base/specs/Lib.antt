@@ -5,6 +5,7 @@ pub mod FileLists
 pub mod FileTexts
 pub mod MemSink
 pub mod MemTexts
+pub mod Numbering
 pub mod OutSink
 pub mod Reads
 pub mod SureSink

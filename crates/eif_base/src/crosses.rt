@@ -2,6 +2,8 @@ use crate::bytes::Bytes;
 use crate::fault::FaultList;
 use crate::memory::Memory;
 use crate::name::Name;
+use crate::name_set::NameSet;
+use crate::names::Names;
 use crate::place::Place;
 use crate::root::Root;
 
@@ -17,5 +19,7 @@ pub fn base_crosses() {
     is_shared::<Place>();
     is_shared::<Name>();
     is_shared::<Bytes>();
+    is_shared::<Names>();
+    is_shared::<NameSet>();
     is_shared::<Root>();
 }

@@ -24,5 +24,11 @@ pub const MOST_FORMALS: u32 = 16;
 /// How many names a type may have.
 pub const MOST_TYPE_NAMES: u32 = 100;
 
+/// How many feature names a class may have.
+pub const MOST_NAMES: u32 = 2_048;
+
+/// How many feature names the proper ancestors of a class may have in all.
+pub const MOST_ANCESTOR_NAMES: u32 = 65_536;
+
 /// How many workers may share the work.
 pub const MOST_WORKERS: u32 = 64;

@@ -1,6 +1,7 @@
 use crate::{
-    Bytes, Code, Fault, FaultList, FileTexts, Gate, MemSink, MemTexts, NO_FILE, Name, OpenGate,
-    OutSink, Place, ReadEnd, ReadFail, Sink, SureSink, SureTexts, Texts, WriteFail, base_crosses,
+    Bytes, Code, Fault, FaultList, FileTexts, Gate, MemSink, MemTexts, NO_FILE, Name, NameSet,
+    Names, OpenGate, OutSink, Place, ReadEnd, ReadFail, Sink, SureSink, SureTexts, Texts,
+    WriteFail, base_crosses,
 };
 use std::fs;
 use std::io::{self, Write};
@@ -95,6 +96,33 @@ fn lists_of_faults_grow(rt: HostRuntime) -> Result<(), Fail> {
     assert_eq!(rt; faults.at(1).feature.text(), b"account_2".as_slice());
     base_crosses();
     OpenGate.pass(3);
+    Ok(())
+}
+
+#[test]
+fn texts_are_numbered_as_they_come(rt: HostRuntime) -> Result<(), Fail> {
+    let mut names = Names::new(rt.alloc());
+    assert_eq!(rt; names.intern(b"deposit")?.0, 0);
+    assert_eq!(rt; names.intern(b"balance")?.0, 1);
+    let deposit = names.intern(b"deposit")?;
+    assert_eq!(rt; deposit.0, 0);
+    assert_eq!(rt; names.find(b"balance").map(|id| id.0), Some(1));
+    assert_eq!(rt; names.find(b"owner").map(|id| id.0), None);
+    assert_eq!(rt; names.text(deposit), b"deposit".as_slice());
+    assert_eq!(rt; names.count(), 2);
+    Ok(())
+}
+
+#[test]
+fn a_set_takes_a_name_once(rt: HostRuntime) -> Result<(), Fail> {
+    let alloc = rt.alloc();
+    let balance = Name::from_bytes(alloc, b"Balance")?;
+    let mut names = NameSet::new(alloc);
+    assert!(rt; !names.has(&balance));
+    assert_eq!(rt; names.insert(&balance), Ok(true));
+    assert_eq!(rt; names.insert(&balance), Ok(false));
+    assert!(rt; names.has(&Name::from_bytes(alloc, b"BALANCE")?));
+    assert!(rt; !names.has(&Name::from_bytes(alloc, b"owner")?));
     Ok(())
 }
 
