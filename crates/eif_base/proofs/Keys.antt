@@ -8,7 +8,7 @@ use Rattle.std.specs.Str.{bytes_eq}
 use Rattle.std.proofs.lemmas.Slice.Eq.{bytes_eq-Decides}
 use Rattle.std.proofs.lemmas.List.Quantifiers.{position-Some}
 use Rattle.std.proofs.lemmas.Option.{slice_get-map, slice_get-get_or}
-use Rattle.eif_base.specs.Numbering.{stands_in, with_text, IsNumbering}
+use Rattle.eif_base.specs.Numbering.{is_among, with_text, IsNumbering}
 use Rattle.eif_base.proofs.Numbered.{last, numbering_more}
 
 abbrev pub Key : Type 0
@@ -18,7 +18,7 @@ abbrev texts : List Key → List (List ℕ)
 texts ks = map (λ (k : Key). k.items) ks
 
 -- what is told of the keys is told of the texts
-pub test_is : (t : List ℕ) (ks : List Key) → stands_in (texts ks) t ≡ list_any (λ (k : Key). bytes_eq t k.items) ks
+pub test_is : (t : List ℕ) (ks : List Key) → is_among (texts ks) t ≡ list_any (λ (k : Key). bytes_eq t k.items) ks
 test_is t [] = refl
 test_is t (k ∷ ks) = ap (λ b. bytes_eq t k.items || b) (test_is t ks)
 
@@ -49,13 +49,13 @@ module _ (old : List (List ℕ)) (t : List ℕ) (ks new : List Key) (k : Key) (v
     (keys : new ≡ (if list_any (λ (y : Key). bytes_eq k.items y.items) ks then ks else ks ++ k ∷ [])) where
   pub with_key : texts new ≡ with_text old t
   with_key =
-      let told : list_any (λ (y : Key). bytes_eq k.items y.items) ks ≡ stands_in old t =
-      ap (λ t. list_any (λ (y : Key). bytes_eq t y.items) ks) is ∙ (sym (test_is t ks) ∙ ap (λ ts. stands_in ts t) view) in
+      let told : list_any (λ (y : Key). bytes_eq k.items y.items) ks ≡ is_among old t =
+      ap (λ t. list_any (λ (y : Key). bytes_eq t y.items) ks) is ∙ (sym (test_is t ks) ∙ ap (λ ts. is_among ts t) view) in
       ap texts (keys ∙ ap (λ b. if b then ks else ks ++ k ∷ []) told)
-      ∙ (texts_choice (stands_in old t) ks k
-      ∙ (ap (λ ts. if stands_in old t then ts else ts ++ k.items ∷ []) view ∙ ap (λ u. if stands_in old t then old else old ++ u ∷ []) is))
+      ∙ (texts_choice (is_among old t) ks k
+      ∙ (ap (λ ts. if is_among old t then ts else ts ++ k.items ∷ []) view ∙ ap (λ u. if is_among old t then old else old ++ u ∷ []) is))
 
-  module _ (absent : stands_in old t ≡ false) where
+  module _ (absent : is_among old t ≡ false) where
     more : texts new ≡ old ++ t ∷ []
     more = with_key ∙ ap (λ b. if b then old else old ++ t ∷ []) absent
 

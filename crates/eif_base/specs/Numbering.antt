@@ -4,12 +4,12 @@ use Rattle.std.specs.List.{list_any}
 use Rattle.std.specs.Str.{bytes_eq}
 
 -- a text of the list is this one
-abbrev pub stands_in : List (List ℕ) → List ℕ → Bool
-stands_in texts text = list_any (bytes_eq text) texts
+abbrev pub is_among : List (List ℕ) → List ℕ → Bool
+is_among texts text = list_any (bytes_eq text) texts
 
 -- the list with this text, which goes last where the list lacks it
 abbrev pub with_text : List (List ℕ) → List ℕ → List (List ℕ)
-with_text texts text = if stands_in texts text then texts else texts ++ text ∷ []
+with_text texts text = if is_among texts text then texts else texts ++ text ∷ []
 
 -- no text stands at two places
 abbrev pub IsNumbering : List (List ℕ) → Type 0

@@ -1,6 +1,6 @@
 ghost use Rattle.std.specs.Prelude.{◌≡◌, ℕ, List, [], ◌||◌, not, OnOk, OnErr, IfOk};
 ghost use Rattle.std.specs.Str.{bytes_eq};
-ghost use Rattle.eif_base.specs.Numbering.{stands_in, with_text};
+ghost use Rattle.eif_base.specs.Numbering.{is_among, with_text};
 
 use crate::memory::Memory;
 use crate::name::Name;
@@ -39,9 +39,9 @@ impl NameSet {
 
     /// Adds the name. True where it is new.
     pub fn insert(&mut self, name: &Name) -> Result<bool, Memory>
-        ensures new { IfOk result (λ new. new ≡ not (stands_in self.old name.now)) }
+        ensures new { IfOk result (λ new. new ≡ not (is_among self.old name.now)) }
         ensures names { OnOk result (self.new ≡ with_text self.old name.now) }
-        ensures has { OnOk result ((n : List ℕ) → stands_in self.new n ≡ (bytes_eq n name.now || stands_in self.old n)) }
+        ensures has { OnOk result ((n : List ℕ) → is_among self.new n ≡ (bytes_eq n name.now || is_among self.old n)) }
         ensures err { OnErr result (self.new ≡ self.old) }
     {
         if self.has(name) {
@@ -54,7 +54,7 @@ impl NameSet {
 
     /// Whether the name is in the set.
     pub fn has(&self, name: &Name) -> bool
-        ensures { result ≡ stands_in self.now name.now }
+        ensures { result ≡ is_among self.now name.now }
     {
         self.names.contains(name.text())
     }

@@ -1,5 +1,5 @@
 ghost use Rattle.std.specs.Prelude.{◌≡◌, ◌<◌, ◌-◌, ◌^◌, [], false, length, slice_get, Some, OnOk, OnErr, IfOk, IfSome, IfNone};
-ghost use Rattle.eif_base.specs.Numbering.{stands_in, with_text, IsNumbering};
+ghost use Rattle.eif_base.specs.Numbering.{is_among, with_text, IsNumbering};
 
 use crate::memory::Memory;
 use crate::name_id::NameId;
@@ -56,7 +56,7 @@ impl Names {
     // Numbers a text that has no number.
     fn add(&mut self, text: &[u8]) -> Result<NameId, Memory>
         requires few { length self.old < 2 ^ 32 - 1 }
-        requires absent { stands_in self.old text.now ≡ false }
+        requires absent { is_among self.old text.now ≡ false }
         ensures texts { OnOk result (self.new ≡ with_text self.old text.now) }
         ensures number { IfOk result (λ id. slice_get self.new id.0 ≡ Some text.now) }
         ensures err { OnErr result (self.new ≡ self.old) }
@@ -71,7 +71,7 @@ impl Names {
     /// The number of the text, if it has one.
     pub fn find(&self, text: &[u8]) -> Option<NameId>
         ensures found { IfSome result (λ id. slice_get self.now id.0 ≡ Some text.now) }
-        ensures absent { IfNone result (stands_in self.now text.now ≡ false) }
+        ensures absent { IfNone result (is_among self.now text.now ≡ false) }
         ensures once { IsNumbering self.now }
     {
         match self.texts.get_index_of(text) {

@@ -6,8 +6,9 @@ use Rattle.std.specs.Option.{option_map, option_map_or}
 use Rattle.eif_base.specs.Appends.{In}
 use Rattle.eif_base.specs.declared.code.Code.TheVariants as code
 use Rattle.eif_base.specs.declared.fault.Fault.{Fault}
+use Rattle.eif_base.specs.Numbering.{is_among}
 use Rattle.eif_tree.specs.declared.tree.NameAt.{NameAt}
-use Rattle.eif_tree.specs.Members.{declarations, is_among, result_name}
+use Rattle.eif_tree.specs.Members.{declarations, result_name}
 use Rattle.eif_tree.specs.Tree.{Inss, KindT, routine, DeclT, ClassT}
 use Rattle.eif_system.specs.Kernel.{kernel_count}
 use Rattle.eif_system.specs.Lineage.{line_of}

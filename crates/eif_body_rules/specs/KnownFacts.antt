@@ -1,9 +1,9 @@
 -- What is known along instructions. What is known of arguments and of test's locals stays known in a compound.
 use Rattle.std.specs.Prelude.{ℕ, Bool, true, false, ◌&&◌, if◌then◌else◌, List, [], ◌∷◌, ◌++◌, Option}
 use Rattle.std.specs.Option.{option_map_or}
+use Rattle.eif_base.specs.Numbering.{is_among}
 use Rattle.eif_tree.specs.Tree.{Ex, Ins, assign, call, create, choose, loop, check, Inss, no_inss, and_ins, Branches, no_branches, and_branch, Otherwise, no_else, else_part}
 use Rattle.eif_classes.specs.Constraints.{is_attached}
-use Rattle.eif_tree.specs.Members.{is_among}
 use Rattle.eif_classes.specs.Types.{TyT}
 use Rattle.eif_body_rules.specs.ExpressionTypes.{type_of, told}
 use Rattle.eif_body_rules.specs.Facts.{Fact, attached, forgotten}

@@ -5,8 +5,9 @@ use Rattle.std.specs.Option.{option_map_or}
 use Rattle.eif_base.specs.declared.code.Code.TheVariants as code
 use Rattle.eif_base.specs.declared.fault.Fault.{Fault}
 use Rattle.eif_base.specs.declared.place.Place.{Place}
+use Rattle.eif_base.specs.Numbering.{is_among}
 use Rattle.eif_tree.specs.Tree.{Ex, literal, void_value, current_value, result_value, unqualified, precursor, qualified, creation, test, paren, unary, binary, Exs, no_exs, and_ex, Ins, assign, call, create, choose, loop, check, Inss, no_inss, and_ins, Branches, no_branches, and_branch, Otherwise, no_else, else_part}
-use Rattle.eif_tree.specs.Members.{is_among, result_name}
+use Rattle.eif_tree.specs.Members.{result_name}
 use Rattle.eif_classes.specs.Types.{TyT, is_self_initialising}
 use Rattle.eif_rules.specs.FaultForms.{fault_where}
 use Rattle.eif_body_rules.specs.Conditions.{goes_on, at_right}

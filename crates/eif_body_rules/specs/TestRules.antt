@@ -4,9 +4,9 @@ use Rattle.std.specs.Option.{option_map, option_map_or, option_to_list}
 use Rattle.eif_base.specs.declared.code.Code.TheVariants as code
 use Rattle.eif_base.specs.declared.fault.Fault.{Fault}
 use Rattle.eif_base.specs.declared.place.Place.{Place}
+use Rattle.eif_base.specs.Numbering.{is_among}
 use Rattle.eif_tree.specs.declared.tree.NameAt.{NameAt}
 use Rattle.eif_tree.specs.Tree.{TypeT, Ex, literal, void_value, current_value, result_value, unqualified, precursor, qualified, creation, test, paren, unary, binary, Exs, no_exs, and_ex}
-use Rattle.eif_tree.specs.Members.{is_among}
 use Rattle.eif_classes.specs.Resolution.{resolved}
 use Rattle.eif_classes.specs.Types.{TyT, attached_form}
 use Rattle.eif_system.specs.WrittenTypes.{type_mark, type_name, type_place}

@@ -1,11 +1,11 @@
 -- What the tree of a condition alone tells. Above each stands its expression, whose names x and y are testable.
 use Rattle.std.specs.Prelude.{◌≡◌, true, false, List, [], ◌∷◌, Some, None, codes, ℕ}
 use Rattle.eif_base.specs.declared.place.Place.{Place}
+use Rattle.eif_base.specs.Numbering.{is_among}
 use Rattle.eif_tree.specs.declared.tree.Op.TheVariants as op
 use Rattle.eif_tree.specs.Tree.{Ex, void_value, test, paren, unary}
 use Rattle.eif_body_rules_laws.specs.PlacedTexts.{at, name, plain, value, operation}
 use Rattle.std.specs.Prelude.{Bool, Option}
-use Rattle.eif_tree.specs.Members.{is_among}
 use Rattle.eif_body_rules.specs.PlainFacts.{is_attached, local_place, plain_facts}
 
 abbrev pub testable : List ℕ → Bool

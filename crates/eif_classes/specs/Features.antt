@@ -3,7 +3,8 @@ use Rattle.std.specs.Prelude.{ℕ, Bool, true, false, List, [], ◌++◌, map, O
 use Rattle.std.specs.List.{filter, find}
 use Rattle.std.specs.Option.{option_map, option_and_then}
 use Rattle.std.specs.Str.{bytes_eq}
-use Rattle.eif_tree.specs.Members.{has_name, declarations, declared_names, is_among}
+use Rattle.eif_base.specs.Numbering.{is_among}
+use Rattle.eif_tree.specs.Members.{has_name, declarations, declared_names}
 use Rattle.eif_tree.specs.Tree.{ParentT, KindT, attribute, deferred_body, DeclT, ClassT}
 use Rattle.eif_classes.specs.Entries.{Declaration, Origin, deferred, declared_as, Feature, Entry, entry, entries_of, lasts, joined, leading}
 use Rattle.eif_system.specs.Lineage.{Line, line, cut, Ups, up, top}

@@ -6,8 +6,9 @@ use Rattle.eif_base.specs.declared.code.Code.{Code}
 use Rattle.eif_base.specs.declared.code.Code.TheVariants as code
 use Rattle.eif_base.specs.declared.fault.Fault.{Fault}
 use Rattle.eif_base.specs.declared.place.Place.{Place}
+use Rattle.eif_base.specs.Numbering.{is_among}
 use Rattle.eif_tree.specs.declared.tree.NameAt.{NameAt}
-use Rattle.eif_tree.specs.Members.{has_name, is_among}
+use Rattle.eif_tree.specs.Members.{has_name}
 use Rattle.eif_tree.specs.Tree.{ParentT}
 use Rattle.eif_rules.specs.FaultForms.{fault_where}
 use Rattle.eif_feature_rules.specs.ParentFeatures.{ParentFeature, is_deferred_feature, is_attribute_feature, parent_names, final_names, has_entry}

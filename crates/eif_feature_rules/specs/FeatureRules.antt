@@ -2,8 +2,10 @@
 use Rattle.std.specs.Prelude.{ℕ, nat_lt, not, ◌&&◌, List, [], ◌∷◌, ◌++◌, length, map, flat_map, sum}
 use Rattle.eif_base.specs.declared.code.Code.TheVariants as code
 use Rattle.eif_base.specs.declared.fault.Fault.{Fault}
+use Rattle.eif_base.specs.declared.limits.TheConstants.{MOST_NAMES, MOST_ANCESTOR_NAMES}
+use Rattle.eif_base.specs.Numbering.{is_among}
 use Rattle.eif_tree.specs.declared.tree.NameAt.{NameAt}
-use Rattle.eif_tree.specs.Members.{has_name, declared_names, is_among}
+use Rattle.eif_tree.specs.Members.{has_name, declared_names}
 use Rattle.eif_tree.specs.Tree.{ParentT, ClassT}
 use Rattle.eif_classes.specs.Entries.{Origin, deferred, clashing, Feature}
 use Rattle.eif_classes.specs.Features.{names}
@@ -45,21 +47,13 @@ origin_faults c f = clashing_name c f.name f.origin ++ deferred_name c f.name f.
 
 -- ---- how many names there are
 
--- the most that a class may have
-abbrev pub most_names : ℕ
-most_names = 2048
-
--- the most that all its proper ancestors may have together
-abbrev pub most_ancestor_names : ℕ
-most_ancestor_names = 65536
-
 -- XLIM.5: too many names
 abbrev pub many_names : ClassT → ℕ → List Fault
-many_names c count = fault_where (nat_lt most_names count) (fault_of c code.Xlim 5)
+many_names c count = fault_where (nat_lt MOST_NAMES count) (fault_of c code.Xlim 5)
 
 -- XLIM.8: the counts of names of all proper ancestors, each ancestor once, have too great a sum
 abbrev pub many_ancestor_names : ClassT → List ℕ → List Fault
-many_ancestor_names c counts = fault_where (nat_lt most_ancestor_names (sum counts)) (fault_of c code.Xlim 8)
+many_ancestor_names c counts = fault_where (nat_lt MOST_ANCESTOR_NAMES (sum counts)) (fault_of c code.Xlim 8)
 
 -- how many names the class with that number has
 abbrev pub count_names : List ClassT → ℕ → ℕ

@@ -3,8 +3,9 @@ use Rattle.std.specs.Prelude.{ℕ, Bool, not, ◌&&◌, List, [], ◌++◌, map,
 use Rattle.std.specs.List.{filter, list_any}
 use Rattle.eif_base.specs.declared.code.Code.TheVariants as code
 use Rattle.eif_base.specs.declared.fault.Fault.{Fault}
+use Rattle.eif_base.specs.Numbering.{is_among}
 use Rattle.eif_tree.specs.declared.tree.NameAt.{NameAt}
-use Rattle.eif_tree.specs.Members.{has_name, is_among}
+use Rattle.eif_tree.specs.Members.{has_name}
 use Rattle.eif_tree.specs.Tree.{ParentT, ClassT}
 use Rattle.eif_classes.specs.Binding.{candidates, is_selected_in}
 use Rattle.eif_classes.specs.Features.{names}

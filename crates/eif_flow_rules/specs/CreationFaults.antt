@@ -6,13 +6,13 @@ use Rattle.eif_base.specs.declared.code.Code.TheVariants as code
 use Rattle.eif_base.specs.declared.fault.Fault.{Fault}
 use Rattle.eif_base.specs.declared.place.Place.{Place}
 use Rattle.eif_base.specs.Appends.{In, SomeOf}
+use Rattle.eif_base.specs.Numbering.{is_among}
 use Rattle.eif_tree.specs.declared.tree.NameAt.{NameAt}
 use Rattle.eif_tree.specs.Tree.{CreatorsT, ClassT}
 use Rattle.eif_classes.specs.Creators.{default_creator}
 use Rattle.eif_classes.specs.Entries.{Declaration}
 use Rattle.eif_system.specs.Kernel.{kernel_count}
 use Rattle.eif_system.specs.Lineage.{Line, line_of}
-use Rattle.eif_tree.specs.Members.{is_among}
 use Rattle.eif_system.specs.TreeForms.{named}
 use Rattle.eif_system.specs.Universe.{universe}
 use Rattle.eif_rules.specs.FaultForms.{fault_in}

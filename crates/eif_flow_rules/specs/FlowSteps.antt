@@ -2,11 +2,11 @@
 use Rattle.std.specs.Prelude.{ℕ, if◌then◌else◌, List, ◌++◌, Option}
 use Rattle.std.specs.Option.{option_map}
 use Rattle.eif_base.specs.declared.place.Place.{Place}
+use Rattle.eif_base.specs.Numbering.{is_among}
 use Rattle.eif_tree.specs.declared.tree.NameAt.{NameAt}
 use Rattle.eif_tree.specs.declared.tree.Op.{Op}
 use Rattle.eif_tree.specs.declared.tree.Op.TheVariants.{AndThen, OrElse, Implies}
 use Rattle.eif_tree.specs.Tree.{Ex, literal, void_value, current_value, result_value, unqualified, precursor, qualified, creation, test, paren, unary, binary, Exs, no_exs, and_ex, Ins, assign, call, create, choose, loop, check, Inss, no_inss, and_ins, Branches, no_branches, and_branch, Otherwise, no_else, else_part}
-use Rattle.eif_tree.specs.Members.{is_among}
 use Rattle.eif_flow_rules.specs.FlowTrees.{Flow, idle, shows, in_turn, aside, one_of}
 use Rattle.eif_flow_rules.specs.TestLocals.{usable_if_true, usable_if_false, usable_by_left}
 

@@ -1,7 +1,7 @@
 -- Where what a body needs is set, each of its nodes finds what it needs.
 use Rattle.std.specs.Prelude.{◌≡◌, ℕ, true, List, [], length}
+use Rattle.eif_base.specs.Numbering.{is_among}
 use Rattle.eif_classes.specs.Entries.{Declaration}
-use Rattle.eif_tree.specs.Members.{is_among}
 use Rattle.eif_flow_rules.specs.CallPaths.{IsOneOf, IsClosed}
 use Rattle.eif_flow_rules.specs.CreationFaults.{unset_needs}
 use Rattle.eif_flow_rules.specs.FieldSets.{FieldSet, no_fields, only, common}

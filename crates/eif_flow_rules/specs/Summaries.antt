@@ -2,11 +2,11 @@
 use Rattle.std.specs.Prelude.{ℕ, Bool, false, not, List, length}
 use Rattle.std.specs.List.{filter}
 use Rattle.std.specs.Option.{option_and_then, option_map_or}
+use Rattle.eif_base.specs.Numbering.{is_among}
 use Rattle.eif_tree.specs.Tree.{ClassT}
 use Rattle.eif_classes.specs.Entries.{Declaration}
 use Rattle.eif_classes.specs.Features.{fields}
 use Rattle.eif_system.specs.Lineage.{Line}
-use Rattle.eif_tree.specs.Members.{is_among}
 use Rattle.eif_classes.specs.Signatures.{signature}
 use Rattle.eif_classes.specs.Types.{is_self_initialising}
 use Rattle.eif_flow_rules.specs.CallPaths.{leads_within}

@@ -6,9 +6,9 @@ use Rattle.std.specs.Str.{bytes_eq}
 use Rattle.std.proofs.lemmas.Bool.{cases_Bool, or_cases, or_left, or_right, and_parts, and_from, not_from_false}
 use Rattle.std.proofs.lemmas.Slice.Eq.{bytes_eq-Decides}
 use Rattle.eif_base.specs.declared.place.Place.{Place}
+use Rattle.eif_base.specs.Numbering.{is_among}
 use Rattle.eif_tree.specs.declared.tree.NameAt.{NameAt}
 use Rattle.eif_classes.specs.Entries.{Declaration}
-use Rattle.eif_tree.specs.Members.{is_among}
 use Rattle.eif_system.specs.TreeForms.{named}
 use Rattle.eif_flow_rules.specs.CallPaths.{IsOneOf, leads_within, IsClosed}
 use Rattle.eif_flow_rules.specs.CreationFaults.{each_at, unset_needs}

@@ -1,9 +1,10 @@
 -- Plain classes, which are all that this version judges: one creator, and procedures whose bodies call procedures.
 use Rattle.std.specs.Prelude.{ℕ, ◌==◌, Bool, true, false, not, ◌&&◌, List, [], ◌∷◌, ◌++◌, length, flat_map, codes, is_none}
 use Rattle.std.specs.List.{list_all}
+use Rattle.eif_base.specs.Numbering.{is_among}
 use Rattle.eif_tree.specs.declared.NameAt.{NameAt}
 use Rattle.eif_tree.specs.Tree.{Exs, no_exs, Ins, Inss, call, unqualified, no_inss, and_ins, KindT, routine, DeclT, CreatorsT, ClassT}
-use Rattle.eif_tree.specs.Members.{has_name, is_among, declarations, declared_names, creator_names, body_of, called_in}
+use Rattle.eif_tree.specs.Members.{has_name, declarations, declared_names, creator_names, body_of, called_in}
 
 -- ---- the form
 

@@ -10,9 +10,9 @@ use Rattle.eif_base.specs.declared.fault.Fault.{Fault}
 use Rattle.eif_base.specs.declared.limits.TheConstants.{MOST_PARENTS, MOST_ANCESTORS, MOST_FORMALS, MOST_TYPE_NAMES}
 use Rattle.eif_base.specs.declared.root.Root.{Root}
 use Rattle.eif_base.specs.Appends.{In, SomeOf}
+use Rattle.eif_base.specs.Numbering.{is_among}
 use Rattle.eif_tree.specs.declared.tree.Mark.{Mark}
 use Rattle.eif_tree.specs.declared.tree.Mark.TheVariants.{Detachable}
-use Rattle.eif_tree.specs.Members.{is_among}
 use Rattle.eif_tree.specs.Tree.{TypeT, FormalT, ParentT, ClassT}
 use Rattle.eif_system.specs.Kernel.{kernel, kernel_count, basic_names}
 use Rattle.eif_system.specs.TreeForms.{nowhere}

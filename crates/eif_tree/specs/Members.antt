@@ -9,10 +9,6 @@ use Rattle.eif_tree.specs.Tree.{Ins, call, Inss, no_inss, and_ins, unqualified, 
 abbrev pub has_name : List NameAt → List ℕ → Bool
 has_name names name = list_any (λ n. bytes_eq n.name name) names
 
--- one of the names is this one
-abbrev pub is_among : List (List ℕ) → List ℕ → Bool
-is_among names name = list_any (bytes_eq name) names
-
 -- the name of the target `Result`
 abbrev pub result_name : List ℕ
 result_name = codes "result"

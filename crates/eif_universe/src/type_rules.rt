@@ -1,6 +1,7 @@
 //! The faults of written types.
 
 ghost use Rattle.std.specs.Prelude.{◌≡◌, ◌++◌, length, map, flat_map, OnOk};
+ghost use Rattle.eif_base.specs.Numbering.{is_among};
 ghost use Rattle.eif_rules.specs.FaultForms.{fault_in};
 ghost use Rattle.eif_rules.specs.UniverseRules as rules;
 ghost use Rattle.eif_system.specs.Kernel.{basic_names};
@@ -101,7 +102,7 @@ fn push_wrong_count(
 
 /// Whether the name is that of a class whose values are no references.
 fn is_basic(name: &Name) -> bool
-    ensures { result ≡ rules.is_among basic_names name.now }
+    ensures { result ≡ is_among basic_names name.now }
 {
     let text = name.text();
     text == b"integer".as_slice()

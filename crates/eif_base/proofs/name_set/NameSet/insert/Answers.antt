@@ -1,5 +1,5 @@
 use Rattle.std.proofs.Common.{ap, ◌∙◌}
-use Rattle.eif_base.specs.Numbering.{stands_in}
+use Rattle.eif_base.specs.Numbering.{is_among}
 use Rattle.eif_base.proofs.Keys.{with_key}
 use Rattle.eif_base.proofs.Numbered.{test_with_text}
 use Rattle.eif_base.proofs.name_set.NameSet.insert.Goals as goal
@@ -11,4 +11,4 @@ returns-clause-names c =
 
 pub returns-clause-has : goal.returns-clause-has
 returns-clause-has c n =
-    ap (λ ts. stands_in ts n) (returns-clause-names c) ∙ test_with_text c.args.self.now c.args.name.now n
+    ap (λ ts. is_among ts n) (returns-clause-names c) ∙ test_with_text c.args.self.now c.args.name.now n

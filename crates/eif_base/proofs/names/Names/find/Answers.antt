@@ -1,6 +1,6 @@
 use Rattle.std.proofs.Common.{sym, ap, ◌∙◌}
 use Rattle.std.specs.Prelude.{slice_get}
-use Rattle.eif_base.specs.Numbering.{stands_in}
+use Rattle.eif_base.specs.Numbering.{is_among}
 use Rattle.eif_base.proofs.Keys.{found_at, test_is}
 use Rattle.eif_base.proofs.names.Names.find.Goals as goal
 
@@ -11,5 +11,5 @@ returns-in-Some-clause-found c =
 
 pub returns-in-None-clause-absent : goal.returns-in-None-clause-absent
 returns-in-None-clause-absent c =
-    ap (λ ts. stands_in ts c.args.text.now) (sym c.self.view_is)
+    ap (λ ts. is_among ts c.args.text.now) (sym c.self.view_is)
     ∙ (test_is c.args.text.now c.self.inside.texts.keys ∙ sym c.in-None.ensures.found)
