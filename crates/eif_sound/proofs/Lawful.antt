@@ -1,38 +1,55 @@
--- What the run of a body needs of a system.
-use Rattle.std.proofs.Common.{◌≡◌, ℕ, List, [], Some}
-use Rattle.eif_tree.specs.Tree.{Ex, unqualified, no_exs, Ins, call, Inss, no_inss, and_ins, GroupT, KindT, routine, DeclT}
-use Rattle.eif_meaning.specs.System.{Origin, System}
+-- What a run needs of a class whose routines call no others than its own.
+use Rattle.std.proofs.Common.{◌≡◌, ℕ, List, [], Some, None}
+use Rattle.eif_tree.specs.Tree.{Ex, unqualified, no_exs, Ins, call, Inss, no_inss, and_ins, routine, DeclT}
+use Rattle.eif_classes.specs.Entries.{Declaration}
+use Rattle.eif_classes.specs.Signatures.{Signature}
+use Rattle.eif_classes.specs.Types.{Actuals}
+use Rattle.eif_meaning.specs.System.{System}
 
--- which bodies may run: the class of the object, the class of the text, the declaration
-abbrev pub Bodies : Type 1
-Bodies = List ℕ → List ℕ → DeclT → Type 0
+-- the names that may be called on Current
+abbrev pub Names : Type 1
+Names = List ℕ → Type 0
 
--- the name x in a text of class k, on an object of class d, leads to a body that may run
-pub record IsCall (system : System) (may_run : Bodies) (d k x : List ℕ) : Type 0 where
-  pub name : List ℕ
-  pub bound : system.bind d k x ≡ Some name
-  pub origin : Origin
-  pub is : system.origin d name ≡ Some origin
-  pub runs : may_run d origin.class_name origin.declaration
+-- ---- texts that call such names alone
 
--- ---- trees that run: known says which names may be called on Current
-
-abbrev pub FineEx : (List ℕ → Type 0) → Ex → Type 0
+abbrev pub FineEx : Names → Ex → Type 0
 FineEx known (unqualified p x no_exs) = known x
 FineEx known _ = ⊥
 
-abbrev pub Fine : (List ℕ → Type 0) → Ins → Type 0
+abbrev pub Fine : Names → Ins → Type 0
 Fine known (call e) = FineEx known e
 Fine known _ = ⊥
 
-abbrev pub AllFine : (List ℕ → Type 0) → Inss → Type 0
+abbrev pub AllFine : Names → Inss → Type 0
 AllFine known no_inss = Unit {0}
 AllFine known (and_ins i is) = Fine known i × AllFine known is
 
-abbrev pub FineBody : (List ℕ → Type 0) → List GroupT → KindT → Type 0
-FineBody known [] (routine [] is) = AllFine known is
-FineBody known _ _ = ⊥
+-- a procedure without arguments and locals
+pub record FineBody (known : Names) (tree : DeclT) : Type 0 where
+  pub code : Inss
+  pub arguments_are : tree.arguments ≡ []
+  pub result_is : tree.result_type ≡ None
+  pub kind_is : tree.kind ≡ routine [] code
+  pub fine : AllFine known code
 
--- each body that may run is fine
-pub record Lawful (system : System) (may_run : Bodies) : Type 0 where
-  pub fine : (d k : List ℕ) (b : DeclT) → may_run d k b → FineBody (IsCall system may_run d k) b.arguments b.kind
+-- ---- the class d in a system
+
+-- a name that class d declares
+abbrev pub of_class : ℕ → List ℕ → DeclT → Declaration
+of_class d x tree = record { class_number = d; name = x; tree = tree }
+
+-- a name that leads to a procedure of the class
+pub record IsCall (system : System) (d : ℕ) (known : Names) (x : List ℕ) : Type 0 where
+  pub signature : Signature
+  pub signed : system.signature d x ≡ Some signature
+  pub bound : system.bind d d x ≡ Some x
+  pub tree : DeclT
+  pub origin : system.origin d x ≡ Some (of_class d x tree)
+  pub written : system.built_in d x ≡ None
+  pub body : FineBody known tree
+
+-- each known name is one, and the class has its own formals
+pub record Lawful (system : System) (d : ℕ) (known : Names) : Type 0 where
+  pub formals : Actuals
+  pub ancestry : system.ancestry d d ≡ Some formals
+  pub calls : (x : List ℕ) → known x → IsCall system d known x

@@ -1,6 +1,13 @@
 pub mod Bodies
+pub mod Calls
+pub mod DeclaredNames
+pub mod GivenClasses
+pub mod Heaps
 pub mod Keeps
 pub mod Lawful
-pub mod RootClass
+pub mod NameSets
+pub mod NoFaults
+pub mod PlainClass
+pub mod RunOk
 pub mod Soundness
 pub mod Tests

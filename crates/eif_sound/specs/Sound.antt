@@ -7,7 +7,7 @@ use Rattle.eif_rules.specs.SystemRules.{SystemBroken}
 use Rattle.eif_meaning.specs.System.{system_of}
 use Rattle.eif_meaning.specs.Run.{run, IsWrong}
 
--- whatever the bound on its calls
+-- whatever the bound on its levels of calls and turns of loops
 abbrev pub Sound : Type 0
 Sound =
     (given : List ClassT) (root : Root)
