@@ -1,4 +1,4 @@
-use Rattle.std.proofs.Common.{sym, subst}
+use Rattle.std.proofs.Common.{subst}
 use Rattle.eif_base.specs.Numbering.{IsNumbering}
 use Rattle.eif_base.proofs.Keys.{with_key, number_is_last, once_more, few_more}
 use Rattle.eif_base.proofs.names.Names.add.Goals as goal
