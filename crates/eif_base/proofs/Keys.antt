@@ -29,14 +29,16 @@ found_at t [] i e = cc
 found_at t (k ∷ ks) i e =
     let p = position-Some (λ (k : Key). bytes_eq t k.items) (k ∷ ks) i k (sym e) in
     let at = slice_get-get_or (k ∷ ks) i k p.0 in
+    let is = (bytes_eq-Decides t (get_or (k ∷ ks) i k).items).0 p.1 in
     slice_get-map (λ (k : Key). k.items) (k ∷ ks) i
-    ∙ (ap (option_map (λ (k : Key). k.items)) at ∙ ap Some (sym ((bytes_eq-Decides t (get_or (k ∷ ks) i k).items).0 p.1)))
+    ∙ (ap (option_map (λ (k : Key). k.items)) at ∙ ap Some (sym is))
 
 texts_append : (ks : List Key) (k : Key) → texts (ks ++ k ∷ []) ≡ texts ks ++ k.items ∷ []
 texts_append [] k = refl
 texts_append (x ∷ ks) k = ap (λ l. x.items ∷ l) (texts_append ks k)
 
-texts_choice : (b : Bool) (ks : List Key) (k : Key) → texts (if b then ks else ks ++ k ∷ []) ≡ (if b then texts ks else texts ks ++ k.items ∷ [])
+texts_choice : (b : Bool) (ks : List Key) (k : Key)
+    → texts (if b then ks else ks ++ k ∷ []) ≡ (if b then texts ks else texts ks ++ k.items ∷ [])
 texts_choice true ks k = refl
 texts_choice false ks k = texts_append ks k
 
@@ -44,16 +46,19 @@ count : (ks : List Key) → length (texts ks) ≡ length ks
 count [] = refl
 count (k ∷ ks) = ap suc (count ks)
 
--- a key that goes last where it is absent
+-- a key was inserted: it goes last where it is absent
 module _ (old : List (List ℕ)) (t : List ℕ) (ks new : List Key) (k : Key) (view : texts ks ≡ old) (is : k.items ≡ t)
     (keys : new ≡ (if list_any (λ (y : Key). bytes_eq k.items y.items) ks then ks else ks ++ k ∷ [])) where
   pub with_key : texts new ≡ with_text old t
   with_key =
-      let told : list_any (λ (y : Key). bytes_eq k.items y.items) ks ≡ is_among old t =
-      ap (λ t. list_any (λ (y : Key). bytes_eq t y.items) ks) is ∙ (sym (test_is t ks) ∙ ap (λ ts. is_among ts t) view) in
+      let there = is_among old t in
+      let told : list_any (λ (y : Key). bytes_eq k.items y.items) ks ≡ there =
+      ap (λ t. list_any (λ (y : Key). bytes_eq t y.items) ks) is
+      ∙ (sym (test_is t ks) ∙ ap (λ ts. is_among ts t) view) in
       ap texts (keys ∙ ap (λ b. if b then ks else ks ++ k ∷ []) told)
-      ∙ (texts_choice (is_among old t) ks k
-      ∙ (ap (λ ts. if is_among old t then ts else ts ++ k.items ∷ []) view ∙ ap (λ u. if is_among old t then old else old ++ u ∷ []) is))
+      ∙ (texts_choice there ks k
+      ∙ (ap (λ ts. if there then ts else ts ++ k.items ∷ []) view
+      ∙ ap (λ u. if there then old else old ++ u ∷ []) is))
 
   module _ (absent : is_among old t ≡ false) where
     more : texts new ≡ old ++ t ∷ []
@@ -61,7 +66,8 @@ module _ (old : List (List ℕ)) (t : List ℕ) (ks new : List Key) (k : Key) (v
 
     pub number_is_last : (n : ℕ) → n ≡ length ks → slice_get (texts new) n ≡ Some t
     number_is_last n e =
-        ap (slice_get (texts new)) (e ∙ (sym (count ks) ∙ ap length view)) ∙ (ap (λ ts. slice_get ts (length old)) more ∙ last old t)
+        ap (slice_get (texts new)) (e ∙ (sym (count ks) ∙ ap length view))
+        ∙ (ap (λ ts. slice_get ts (length old)) more ∙ last old t)
 
     pub once_more : IsNumbering old → IsNumbering (texts new)
     once_more once = subst IsNumbering (sym more) (numbering_more old t absent once)

@@ -1,5 +1,6 @@
 -- Texts and their places in a numbering.
-use Rattle.std.proofs.Common.{◌≡◌, ℕ, zero, suc, Bool, true, false, true≢false, List, [], ◌∷◌, ◌++◌, length, Some, refl, sym, ap, ◌∙◌}
+use Rattle.std.proofs.Common.{◌≡◌, ℕ, zero, suc, Bool, true, false, true≢false, List, [], ◌∷◌, ◌++◌, length}
+use Rattle.std.proofs.Common.{Some, refl, sym, ap, ◌∙◌}
 use Rattle.std.specs.Prelude.{◌||◌, if◌then◌else◌, slice_get}
 use Rattle.std.specs.Str.{bytes_eq}
 use Rattle.std.proofs.lemmas.Slice.Eq.{bytes_eq-Decides}
@@ -36,7 +37,8 @@ get_front (x ∷ ts) us t zero e = e
 get_front (x ∷ ts) us t (suc i) e = get_front ts us t i e
 
 -- each text keeps its number
-pub keeps : (ts : List (List ℕ)) (new t : List ℕ) (i : ℕ) → slice_get ts i ≡ Some t → slice_get (with_text ts new) i ≡ Some t
+pub keeps : (ts : List (List ℕ)) (new t : List ℕ) (i : ℕ) → slice_get ts i ≡ Some t
+    → slice_get (with_text ts new) i ≡ Some t
 keeps ts new t i e = go (is_among ts new)
   where
     go : (b : Bool) → slice_get (if b then ts else ts ++ new ∷ []) i ≡ Some t
@@ -57,7 +59,8 @@ push_cases P (x ∷ ts) new t zero e a b = a e
 push_cases P (x ∷ ts) new t (suc i) e a b = push_cases P ts new t i e a (λ p q. b (ap suc p) q)
 
 -- an absent text may go last
-pub numbering_more : (ts : List (List ℕ)) (new : List ℕ) → is_among ts new ≡ false → IsNumbering ts → IsNumbering (ts ++ new ∷ [])
+pub numbering_more : (ts : List (List ℕ)) (new : List ℕ) → is_among ts new ≡ false → IsNumbering ts
+    → IsNumbering (ts ++ new ∷ [])
 numbering_more ts new absent once i j t p q =
     push_cases (i ≡ j) ts new t i p
     (λ a. push_cases (i ≡ j) ts new t j q (λ b. once i j t a b) (λ e s. absurd (is_absent i s a)))
@@ -78,7 +81,8 @@ test_last (x ∷ ts) new t =
     swap false b c = refl
 
 -- exactly the old texts and the new one stand in the list
-pub test_with_text : (ts : List (List ℕ)) (new t : List ℕ) → is_among (with_text ts new) t ≡ (bytes_eq t new || is_among ts t)
+pub test_with_text : (ts : List (List ℕ)) (new t : List ℕ)
+    → is_among (with_text ts new) t ≡ (bytes_eq t new || is_among ts t)
 test_with_text ts new t = go (is_among ts new) refl
   where
     known : is_among ts new ≡ true → (b : Bool) → bytes_eq t new ≡ b → is_among ts t ≡ (b || is_among ts t)

@@ -41,7 +41,8 @@ impl NameSet {
     pub fn insert(&mut self, name: &Name) -> Result<bool, Memory>
         ensures new { IfOk result (λ new. new ≡ not (is_among self.old name.now)) }
         ensures names { OnOk result (self.new ≡ with_text self.old name.now) }
-        ensures has { OnOk result ((n : List ℕ) → is_among self.new n ≡ (bytes_eq n name.now || is_among self.old n)) }
+        ensures has { OnOk result ((n : List ℕ) → is_among self.new n
+            ≡ (bytes_eq n name.now || is_among self.old n)) }
         ensures err { OnErr result (self.new ≡ self.old) }
     {
         if self.has(name) {

@@ -1,4 +1,5 @@
-ghost use Rattle.std.specs.Prelude.{◌≡◌, ◌<◌, ◌-◌, ◌^◌, [], false, length, slice_get, Some, OnOk, OnErr, IfOk, IfSome, IfNone};
+ghost use Rattle.std.specs.Prelude.{◌≡◌, ◌<◌, ◌-◌, ◌^◌, [], false, length, slice_get, Some};
+ghost use Rattle.std.specs.Prelude.{OnOk, OnErr, IfOk, IfSome, IfNone};
 ghost use Rattle.eif_base.specs.Numbering.{is_among, with_text, IsNumbering};
 
 use crate::memory::Memory;
@@ -25,7 +26,8 @@ impl Model for Names {
 
     ghost view = { λ n. map (λ t. t.items) n.texts.keys };
 
-    ghost invariant = { λ n. (length n.texts.keys < 2 ^ 32) × IsNumbering (map (λ t. t.items) n.texts.keys) };
+    ghost invariant = { λ n. (length n.texts.keys < 2 ^ 32)
+        × IsNumbering (map (λ t. t.items) n.texts.keys) };
 }
 
 impl Names {
