@@ -63,8 +63,8 @@ derivation_faults u cut = []
 
 -- ---- the actuals of a written type
 
--- XGEN.2: an actual of a type that a feature of the class c writes doesn't conform to the constraint of the class a on
--- its formal
+-- XGEN.2: an actual of a type that the class c writes doesn't conform to the constraint of the class a on its formal;
+-- feature is the declaration in which it stands, empty in none
 abbrev pub wrong_actual : List ClassT → ℕ → ClassT → List ℕ → ClassT → TypeT → FormalT → List Fault
 wrong_actual u d c feature a t formal =
     fault_where (not (conforms u d (resolved u c t) (formal_constraint u a formal)))

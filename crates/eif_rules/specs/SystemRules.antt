@@ -22,7 +22,7 @@ not_yet c = fault_where (not (is_plain c)) (fault_at c code.Xyet 1 c.place [])
 
 -- ---- the root procedure
 
--- VSRP.1: it is no creator of the root class
+-- of a plain class: it is no creator of the root class
 abbrev pub no_root_procedure : Root → ClassT → List Fault
 no_root_procedure root c =
     fault_where (not (has_name (creator_names c) root.procedure_name))
@@ -33,7 +33,7 @@ root_procedure_faults given root = option_map_or (no_root_procedure root) (root_
 
 -- ---- names in bodies
 
--- VEEN.1: a name that a declaration of the class calls is not among those that the class declares
+-- of a plain class: a name that a declaration of the class calls is not among those that the class declares
 abbrev pub unknown_name : ClassT → List NameAt → DeclT → NameAt → List Fault
 unknown_name c declared d n =
     fault_where (not (has_name declared n.name)) (fault_in c (feature_name d.names) code.Veen 1 n.place n.name)

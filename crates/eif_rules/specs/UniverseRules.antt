@@ -22,7 +22,7 @@ use Rattle.eif_system.specs.Inheritance.{parent_number, graph_of}
 use Rattle.eif_system.specs.WrittenTypes.{Written, written_types, present, nested, actuals, type_name, type_mark, type_place, type_name_place}
 use Rattle.eif_rules.specs.FaultForms.{fault_in, fault_at, fault_of, fault_where}
 
--- ---- a type, or a type in it, that a feature of the class c writes
+-- ---- a type, or a type in it, that the class c writes; feature is the declaration in which it stands, empty in none
 
 -- VTCT.1: the name is neither a formal nor a class
 abbrev pub unknown_class : List ClassT → ClassT → List ℕ → TypeT → List Fault
@@ -49,7 +49,7 @@ abbrev pub is_detachable : Mark → Bool
 is_detachable Detachable = true
 is_detachable _ = false
 
--- XMRK.1: INTEGER, BOOLEAN or CHARACTER is marked detachable
+-- XMRK.1: INTEGER, BOOLEAN or CHARACTER is marked detachable, and no formal has that name
 abbrev pub wrong_mark : ClassT → List ℕ → TypeT → List Fault
 wrong_mark c feature t =
     fault_where (is_detachable (type_mark t) && not (is_formal c (type_name t)) && is_among basic_names (type_name t))
@@ -126,10 +126,14 @@ IsOwnAncestor u d c p f =
 abbrev pub many_parents : ClassT → List Fault
 many_parents c = fault_where (nat_lt MOST_PARENTS (length c.parents)) (fault_of c code.Xlim 1)
 
+-- the class d has more than so many proper ancestors
+abbrev pub HasMoreAncestors : ℕ → List ClassT → ℕ → Type 0
+HasMoreAncestors most u d =
+    (xs : List ℕ) × IsListOf (IsProperAncestor (graph_of u) d) xs × (most < length xs)
+
 -- XLIM.2: the class d has too many proper ancestors
 abbrev pub HasManyAncestors : List ClassT → ℕ → ClassT → Fault → Type 0
-HasManyAncestors u d c f =
-    (xs : List ℕ) × IsListOf (IsProperAncestor (graph_of u) d) xs × (MOST_ANCESTORS < length xs) × (f ≡ fault_of c code.Xlim 2)
+HasManyAncestors u d c f = HasMoreAncestors MOST_ANCESTORS u d × (f ≡ fault_of c code.Xlim 2)
 
 -- XLIM.3: too many formals
 abbrev pub many_formals : ClassT → List Fault

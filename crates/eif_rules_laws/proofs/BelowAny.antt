@@ -1,6 +1,6 @@
 -- The ancestors of a class d whose only parent is the class 0, ANY, which has none.
-use Rattle.std.proofs.Common.{◌≡◌, ◌≢◌, ℕ, zero, suc, Bool, true, false, List, [], ◌∷◌, Some, refl, sym, ap, subst, ◌∙◌, inl, inr, ⊎_elim}
-use Rattle.std.specs.Prelude.{slice_get, ◌||◌, ◌==◌, ◌⊎◌}
+use Rattle.std.proofs.Common.{◌≡◌, ◌≢◌, ℕ, zero, suc, Bool, true, false, List, [], ◌∷◌, Some, refl, sym, ap, subst, ◌∙◌, inl, inr, ⊎_elim, arith}
+use Rattle.std.specs.Prelude.{slice_get, length, ◌<◌, ◌||◌, ◌==◌, ◌⊎◌}
 use Rattle.std.proofs.lemmas.Bool.{eqb-true}
 use Rattle.eif_system.specs.Graph.{is_member, parents_of, Climbs, Reaches, IsProperAncestor, IsListOf}
 
@@ -37,3 +37,19 @@ module _ (g : List (List ℕ)) (d : ℕ) (row : parents_of g d ≡ 0 ∷ []) (to
         record { other = other; above = (0 ∷ [], (subst (λ xs. is_member 0 xs ≡ true) (sym row) refl, refl)) };
     each = λ a h. ⊎_elim (λ e. absurd (h.other e)) (λ e. (0, ap Some e)) (up_from a h.above);
   }
+
+  -- each of its proper ancestors is ANY
+  pub is_any : (a : ℕ) → IsProperAncestor g d a → 0 ≡ a
+  is_any a h = ⊎_elim (λ e. absurd (h.other e)) (λ e. e) (up_from a h.above)
+
+  two_alike : (xs : List ℕ) → IsListOf (IsProperAncestor g d) xs → 1 < length xs → ⊥
+  two_alike [] list more = absurd (omega arith)
+  two_alike (x ∷ []) list more = absurd (omega arith)
+  two_alike (x ∷ y ∷ xs) list more =
+      let same : x ≡ y = sym (is_any x (list.only 0 x refl)) ∙ is_any y (list.only 1 y refl) in
+      let e : 0 ≡ 1 = list.once 0 1 x refl (ap Some (sym same)) in
+      absurd (omega (arith, e))
+
+  -- so it has no more than one
+  pub one_alone : (xs : List ℕ) × IsListOf (IsProperAncestor g d) xs × (1 < length xs) → ⊥
+  one_alone h = two_alike h.0 h.1 h.2

@@ -13,7 +13,7 @@ use Rattle.eif_system.specs.Universe.{universe, class_number}
 use Rattle.eif_system.specs.Graph.{IsProperAncestor, IsListOf}
 use Rattle.eif_system.specs.Inheritance.{graph_of}
 use Rattle.eif_rules.specs.FaultForms.{fault_in, fault_at}
-use Rattle.eif_rules.specs.UniverseRules.{IsOwnAncestor, text_faults, repeated_class, ClassBroken, root_faults}
+use Rattle.eif_rules.specs.UniverseRules.{IsOwnAncestor, HasMoreAncestors, text_faults, repeated_class, ClassBroken, root_faults}
 
 -- ---- class texts in a few words
 
@@ -190,8 +190,11 @@ pub record ParentExamples : Type 0 where
   -- XLIM.1: class B inherit ANY ANY .. end with 65 clauses and with 64
   pub many : faults_alone (with_any_clauses 65) ≡ fault_in_text code.Xlim 1 7 (codes "b") ∷ []
   pub most : faults_alone (with_any_clauses 64) ≡ []
-  -- XLIM.2 counts proper ancestors: of class B inherit ANY end the one is ANY
+  -- XLIM.2, with other bounds: class B inherit ANY end has one proper ancestor, ANY; it is more than none, and not more
+  -- than one
   pub one_ancestor : IsListOf (IsProperAncestor (graph_of (universe (with_any_clauses 1 ∷ []))) 6) (0 ∷ [])
+  pub more_than_none : HasMoreAncestors 0 (universe (with_any_clauses 1 ∷ [])) 6
+  pub not_more_than_one : HasMoreAncestors 1 (universe (with_any_clauses 1 ∷ [])) 6 → ⊥
 
 -- ---- classes of one name
 

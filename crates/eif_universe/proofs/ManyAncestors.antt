@@ -24,9 +24,9 @@ adds_many u d c rows row count old new are w is long e =
     let at : slice_get rows d ≡ Some row = slice_get-get_or rows d row w ∙ ap Some (sym is) in
     let list = (are.each d row at).list in
     adds_where old new (ltb MOST_ANCESTORS count) (fault_of c code.Xlim 2) (HasManyAncestors u d c) e
-    (λ t. let many : MOST_ANCESTORS < length row = grind (arith, nat_tests) in (row, list, many, refl))
+    (λ t. let many : MOST_ANCESTORS < length row = grind (arith, nat_tests) in ((row, list, many), refl))
     (λ f h.
-    let same = as_long (IsProperAncestor (graph_of u) d) h.0 row h.1 list in
-    let many = h.2 in
+    let same = as_long (IsProperAncestor (graph_of u) d) h.0.0 row h.0.1 list in
+    let many = h.0.2 in
     let t : ltb MOST_ANCESTORS count ≡ true = grind (arith, nat_tests) in
-    (t, h.3))
+    (t, h.1))

@@ -3,7 +3,7 @@ use Rattle.eif_system.specs.Kernel.{kernel}
 use Rattle.eif_system.specs.Universe.{universe}
 use Rattle.eif_system.specs.Inheritance.{graph_of}
 use Rattle.eif_rules_laws.specs.UniverseExamples.{class_d, class_b_below_d}
-use Rattle.eif_rules_laws.proofs.BelowAny.{up_from_number, one_ancestor}
+use Rattle.eif_rules_laws.proofs.BelowAny.{up_from_number, one_ancestor, one_alone}
 use Rattle.eif_rules_laws.proofs.universe_examples.Goals as goal
 
 pub returns-clause-types : goal.returns-clause-types
@@ -51,6 +51,8 @@ returns-clause-parents c = record {
   many = refl;
   most = refl;
   one_ancestor = one_ancestor _ 6 refl refl (omega arith);
+  more_than_none = (0 ∷ [], one_ancestor _ 6 refl refl (omega arith), omega arith);
+  not_more_than_one = one_alone _ 6 refl refl;
 }
 
 pub returns-clause-classes : goal.returns-clause-classes
