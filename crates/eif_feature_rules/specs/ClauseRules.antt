@@ -1,5 +1,6 @@
 -- The rules of one parent clause: what it renames, exports, undefines, redefines and selects. Each listed name is judged
--- by itself, and of several rules of one code that it breaks the first counts.
+-- by itself, and of several rules of one code that it breaks the first counts. VDRS.3 and VMSS.3, which ask for the whole
+-- class, are in FeatureRules and SelectionRules, VDRS.4 in DeclarationRules.
 use Rattle.std.specs.Prelude.{ℕ, not, ◌==◌, List, [], ◌++◌, map, flat_map, length, codes}
 use Rattle.std.specs.List.{filter_map}
 use Rattle.eif_base.specs.declared.code.Code.{Code}

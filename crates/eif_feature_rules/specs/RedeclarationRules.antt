@@ -1,5 +1,5 @@
 -- The rules of redeclaration: a declared name beside each entry of it. Of several rules that it breaks beside one entry
--- the first counts.
+-- the first counts. VDRD.6, of a name that isn't declared, is in JoinRules.
 use Rattle.std.specs.Prelude.{ℕ, Bool, not, ◌&&◌, List, ◌++◌, flat_map}
 use Rattle.eif_base.specs.declared.code.Code.TheVariants as code
 use Rattle.eif_base.specs.declared.fault.Fault.{Fault}

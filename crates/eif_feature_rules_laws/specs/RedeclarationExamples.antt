@@ -280,9 +280,11 @@ smaller_l = of (at 17) "l" (plain (at 20) "any")
 abbrev pub below : TypeT → ClassT → ClassT
 below parent b = inherits (parent_clause parent ∷ []) b
 
--- class B inherit L [L [ANY]] feature f do end end, but for the parent
+-- class B inherit L [L [ANY]] redefine f end feature f do end end
 abbrev pub declaring_b : ClassT
-declaring_b = declares (procedure (name (at 37) "f") no_inss ∷ []) class_b
+declaring_b =
+    inherits (redefining (name (at 38) "f" ∷ []) (parent_clause larger_l) ∷ [])
+    (declares (procedure (name (at 52) "f") no_inss ∷ []) class_b)
 
 -- class C inherit B end
 abbrev pub class_c_below_b : ClassT
@@ -291,8 +293,8 @@ class_c_below_b = inherits (parent (inline 2 17) "b" ∷ []) (class (inline 2 7)
 pub record SizeExamples : Type 0 where
   -- XLIM.9: class B inherit L [L [ANY]] end
   pub large : phase (below larger_l class_b ∷ class_l ∷ []) ≡ fault_of_b code.Xlim 9 7 "f" ∷ []
-  -- of that name nothing else is judged: class B inherit L [L [ANY]] feature f do end end
-  pub large_alone : phase (below larger_l declaring_b ∷ class_l ∷ []) ≡ fault_of_b code.Xlim 9 7 "f" ∷ []
+  -- of that name nothing else is judged: class B inherit L [L [ANY]] redefine f end feature f do end end
+  pub large_alone : phase (declaring_b ∷ class_l ∷ []) ≡ fault_of_b code.Xlim 9 7 "f" ∷ []
   -- class B inherit L [ANY] end
   pub largest : phase (below smaller_l class_b ∷ class_l ∷ []) ≡ []
   -- B's f is as large in its heir: class B inherit L [L [ANY]] end, class C inherit B end
