@@ -26,6 +26,10 @@ returns-clause-precursor c = record {
   twice = refl;
   in_invariant = refl;
   arguments_first = refl;
+  unknown_parent = refl;
+  two_parents = refl;
+  one_of_two = refl;
+  one_undefined = refl;
 }
 
 pub returns-clause-name : goal.returns-clause-name
@@ -57,8 +61,10 @@ returns-clause-qualified c = record {
   no_feature = refl;
   detachable_first = refl;
   not_available = refl;
-  to_heirs_alone = refl;
+  to_another_class_alone = refl;
   available = refl;
+  availability_first = refl;
+  available_to_heirs = refl;
 }
 
 pub returns-clause-argument : goal.returns-clause-argument
@@ -89,4 +95,7 @@ returns-clause-used c = record {
   entity_unused = refl;
   used = refl;
   arguments_first = refl;
+  argument_first = refl;
+  no_value_of_precursor = refl;
+  precursor_unused = refl;
 }

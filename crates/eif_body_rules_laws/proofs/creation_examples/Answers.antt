@@ -31,6 +31,11 @@ returns-clause-instruction c = record {
   wrong_count = refl;
   wrong_argument = refl;
   right_argument = refl;
+  type_first = refl;
+  mark_first = refl;
+  deferred_first = refl;
+  default_creator = refl;
+  arguments_first = refl;
 }
 
 pub returns-clause-expression : goal.returns-clause-expression
@@ -46,4 +51,5 @@ returns-clause-expression c = record {
   no_creator = refl;
   no_default_creator = refl;
   creator = refl;
+  not_available = refl;
 }

@@ -48,6 +48,7 @@ returns-clause-local c = record {
   instruction = refl;
   in_assertion = refl;
   hidden = refl;
+  in_loop = refl;
 }
 
 pub returns-clause-result : goal.returns-clause-result

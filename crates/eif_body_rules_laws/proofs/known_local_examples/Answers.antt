@@ -35,4 +35,7 @@ returns c = record {
   before_if = refl;
   hidden = refl;
   generic = refl;
+  loop_start_assigns = refl;
+  each_branch_assigns = refl;
+  after_loop = refl;
 }

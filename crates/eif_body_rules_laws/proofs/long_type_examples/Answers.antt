@@ -24,4 +24,6 @@ returns c = record {
   long_argument = refl;
   longest_argument = refl;
   use_first = refl;
+  long_creation = refl;
+  longest_creation = refl;
 }

@@ -37,4 +37,5 @@ returns-clause-small_system c = record {
   plain_formal = refl;
   constrained_formal = refl;
   hidden_features = refl;
+  redeclared_function = refl;
 }

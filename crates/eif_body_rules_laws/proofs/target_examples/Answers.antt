@@ -25,6 +25,8 @@ returns-clause-variable c = record {
   test_local = refl;
   created_argument = refl;
   variables = refl;
+  target_first = refl;
+  procedure = refl;
 }
 
 pub returns-clause-source : goal.returns-clause-source
@@ -39,4 +41,5 @@ returns-clause-source c = record {
   unfit_result = refl;
   untyped = refl;
   declared_type = refl;
+  of_routine = refl;
 }

@@ -30,6 +30,8 @@ returns-clause-test_local c = record {
   two_assertions = refl;
   two_arguments = refl;
   two_call_arguments = refl;
+  usable_first = refl;
+  target_and_argument = refl;
 }
 
 pub returns-clause-written_type : goal.returns-clause-written_type
