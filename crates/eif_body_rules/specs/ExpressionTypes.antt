@@ -58,8 +58,8 @@ abbrev mutual
   judge_all s k n (and_ex e es) =
       judge s k n e ⊗ judge_all s k (n ++ test_names e) es ▹ first_argument (place_of e)
 
-  -- the facts that an expression tells where it has the value b; by the tree alone, so also of a test that breaks a
-  -- rule
+  -- the facts that an expression tells where it has the value b; but for the types of tests' locals by the tree alone,
+  -- so also of a test that breaks a rule
   pub facts : Setting → List Fact → List (List ℕ) → Bool → Ex → List Fact
   facts s k n b (literal p x) = []
   facts s k n b (void_value p) = []
