@@ -63,7 +63,8 @@ in_postcondition u d c x = in_declaration u d c x (arguments_of u c x) (result_o
 
 -- ---- declarations
 
--- VEVI.2: Result, of that type, isn't surely set at the end of a body; told at the declared name
+-- VEVI.2: Result, of that type, isn't surely set at the end of a body, whatever else is broken; told at the declared
+-- name
 abbrev pub unset_at_end : Setting → Inss → TyT → NameAt → List Fault
 unset_at_end s body t n =
     fault_where (not (is_self_initialising t) && not (is_among (set_after_all [] body) result_name))

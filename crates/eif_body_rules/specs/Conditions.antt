@@ -28,9 +28,9 @@ tested_name testable e = if_testable testable (name_in e)
 
 -- the testable name that is compared with Void
 unfoldable pub compared_name : (List ℕ → Bool) → Ex → Ex → List (List ℕ)
-compared_name testable l r =
-    if is_void r then tested_name testable l
-    else if is_void l then tested_name testable r
+compared_name testable left right =
+    if is_void right then tested_name testable left
+    else if is_void left then tested_name testable right
     else []
 
 -- the operator, where it has that value, tells that the name that is compared with Void is attached
@@ -69,19 +69,19 @@ left_value _ b = b
 
 -- what is known in the right operand, by what the left one tells
 abbrev pub at_right : Op → List Fact → List Fact → List Fact
-at_right o k told = if is_short o then k ++ told else k
+at_right o k by_left = if is_short o then k ++ by_left else k
 
 -- ---- what is told in all, by what operands tell
 
 -- a negation turns what its operand tells; another unary operator tells nothing
 abbrev pub told_by_unary : {A : Type 0} → Op → List A → List A
-told_by_unary op.Not told = told
-told_by_unary _ told = []
+told_by_unary op.Not by_operand = by_operand
+told_by_unary _ by_operand = []
 
 -- by the facts of both operands
 abbrev pub told_by_operands : {A : Type 0} → Op → Bool → List A → List A
-told_by_operands o b told = if tells_both o b then told else []
+told_by_operands o b by_operands = if tells_both o b then by_operands else []
 
 -- the testable name that the operator, where it has that value, tells to be attached
 abbrev pub told_by_void : (List ℕ → Bool) → Op → Bool → Ex → Ex → List (List ℕ)
-told_by_void testable o b l r = if excludes_void o b then compared_name testable l r else []
+told_by_void testable o b left right = if excludes_void o b then compared_name testable left right else []

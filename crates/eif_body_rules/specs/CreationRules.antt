@@ -16,8 +16,9 @@ use Rattle.eif_classes.specs.Resolution.{resolved, actuals_in}
 use Rattle.eif_classes.specs.Signatures.{Signature, signature, with_actuals}
 use Rattle.eif_classes.specs.Types.{TyT, class_type, formal_type, none_type, attached_form}
 use Rattle.eif_system.specs.WrittenTypes.{type_mark}
-use Rattle.eif_body_rules.specs.CallRules.{Argument, Outcome, call_of, long_type}
+use Rattle.eif_body_rules.specs.CallRules.{Argument, call_of}
 use Rattle.eif_body_rules.specs.Judgements.{Judged, broken, unless, first_of, ◌▹◌}
+use Rattle.eif_body_rules.specs.Outcomes.{Outcome, long_type}
 use Rattle.eif_body_rules.specs.Settings.{Setting, fault, fits}
 
 -- what is to be created, as VGCE of an expression or VGCI of an instruction
@@ -67,8 +68,8 @@ creator_place c = option_map_or (λ n. n.place) c.creator c.place
 -- ---- what can be created
 
 -- VGCI.1, VGCE.1: the type is a formal, or is written with the mark detachable
-abbrev pub no_class_type : Setting → Creation → List Fault
-no_class_type s c =
+abbrev pub wrong_created_type : Setting → Creation → List Fault
+wrong_created_type s c =
     fault_where (is_none (class_in c.type) || c.is_marked) (fault s c.code 1 c.place (type_text s c.type))
 
 abbrev pub is_deferred : Setting → ℕ → Bool
@@ -96,7 +97,8 @@ no_creator s c =
 -- the first of these
 unfoldable pub creation_faults : Setting → Creation → List Fault
 creation_faults s c =
-    first_of (no_class_type s c) (first_of (deferred_class s c) (first_of (basic_class s c) (no_creator s c)))
+    first_of (wrong_created_type s c)
+    (first_of (deferred_class s c) (first_of (basic_class s c) (no_creator s c)))
 
 -- ---- the call of the creator
 
@@ -111,13 +113,13 @@ abbrev pub creator_signature : Setting → Creation → Option Signature
 creator_signature s c = option_and_then (signature s.universe (created_line s c)) (creator_name s c)
 
 -- the type is that in attached form
-abbrev pub as_created : Setting → Creation → Outcome → Judged TyT
-as_created s c o = long_type s c.place o.is_long (attached_form c.type)
+abbrev pub creation_type : Setting → Creation → Outcome → Judged TyT
+creation_type s c o = long_type s c.place o.is_long (attached_form c.type)
 
 -- where these rules are kept
 unfoldable pub creation_rule : Setting → Creation → List Fault → List Argument → Judged TyT
 creation_rule s c wrong args =
-    unless wrong (creator_call s c args (creator_signature s c) ▹ as_created s c)
+    unless wrong (creator_call s c args (creator_signature s c) ▹ creation_type s c)
 
 -- VGCI.5: the written type of an instruction doesn't conform to the target's
 unfoldable pub unfit_type : Setting → Creation → List ℕ → TyT → List Fault

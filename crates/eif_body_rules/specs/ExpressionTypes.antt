@@ -7,12 +7,13 @@ use Rattle.eif_tree.specs.ExpressionPlaces.{place_of}
 use Rattle.eif_tree.specs.Tree.{Ex, literal, void_value, current_value, result_value, unqualified, precursor, qualified, creation, test, paren, unary, binary, Exs, no_exs, and_ex}
 use Rattle.eif_classes.specs.Resolution.{own_type}
 use Rattle.eif_classes.specs.Types.{TyT, none_type}
-use Rattle.eif_body_rules.specs.CallRules.{Argument, name_rule, result_rule, call_rule, precursor_rule, as_value}
+use Rattle.eif_body_rules.specs.CallRules.{Argument, name_rule, result_rule, call_rule, precursor_rule}
 use Rattle.eif_body_rules.specs.Conditions.{tested_name, goes_on, left_value, at_right, told_by_unary, told_by_operands, told_by_void}
 use Rattle.eif_body_rules.specs.CreationRules.{of_written, creation_faults, creation_rule}
 use Rattle.eif_body_rules.specs.Facts.{Fact, attached}
 use Rattle.eif_body_rules.specs.Judgements.{Judged, fine, ◌▹◌, ◌⊗◌}
 use Rattle.eif_body_rules.specs.OperatorRules.{literal_type, unary_rule, binary_rule}
+use Rattle.eif_body_rules.specs.Outcomes.{as_value}
 use Rattle.eif_body_rules.specs.Settings.{Setting, is_testable}
 use Rattle.eif_body_rules.specs.TestRules.{local_names, test_names, test_faults, test_rule, local_type, bound_local}
 
@@ -43,12 +44,13 @@ abbrev mutual
   judge s k n (creation p t x args) =
       judge_all s k n args
       ▹ creation_rule s (of_written s code.Vgce p t x) (creation_faults s (of_written s code.Vgce p t x))
-  judge s k n (test p t l e) =
-      judge s k (n ++ local_names l) e ▹ test_rule (test_faults s k n t l)
+  judge s k n (test p t local e) =
+      judge s k (n ++ local_names local) e ▹ test_rule (test_faults s k n t local)
   judge s k n (paren p e) = judge s k n e
   judge s k n (unary p o e) = judge s k n e ▹ unary_rule s o p
-  judge s k n (binary p o q l r) =
-      judge s k n l ⊗ judge s (at_right o k (facts s k n (goes_on o) l)) (n ++ test_names l) r ▹ binary_rule s o q
+  judge s k n (binary p o q left right) =
+      judge s k n left ⊗ judge s (at_right o k (facts s k n (goes_on o) left)) (n ++ test_names left) right
+      ▹ binary_rule s o q
 
   -- each by itself, from left to right
   pub judge_all : Setting → List Fact → List (List ℕ) → Exs → Judged (List Argument)
@@ -56,7 +58,8 @@ abbrev mutual
   judge_all s k n (and_ex e es) =
       judge s k n e ⊗ judge_all s k (n ++ test_names e) es ▹ first_argument (place_of e)
 
-  -- the facts that an expression tells where it has the value b
+  -- the facts that an expression tells where it has the value b; but for the types of tests' locals by the tree alone,
+  -- so also of a test that breaks a rule
   pub facts : Setting → List Fact → List (List ℕ) → Bool → Ex → List Fact
   facts s k n b (literal p x) = []
   facts s k n b (void_value p) = []
@@ -66,15 +69,17 @@ abbrev mutual
   facts s k n b (precursor p x args) = []
   facts s k n b (qualified p e x args) = []
   facts s k n b (creation p t x args) = []
-  facts s k n b (test p t l e) =
-      if b then told_by_test s e (bound_local p l (local_type s t (judge s k (n ++ local_names l) e).value)) else []
+  facts s k n b (test p t local e) =
+      if b
+      then told_by_test s e (bound_local p local (local_type s t (judge s k (n ++ local_names local) e).value))
+      else []
   facts s k n b (paren p e) = facts s k n b e
   facts s k n b (unary p o e) = told_by_unary o (facts s k n (not b) e)
-  facts s k n b (binary p o q l r) =
-      all_attached (told_by_void (is_testable s) o b l r)
+  facts s k n b (binary p o q left right) =
+      all_attached (told_by_void (is_testable s) o b left right)
       ++ told_by_operands o b
-      (facts s k n (left_value o b) l
-      ++ facts s (at_right o k (facts s k n (goes_on o) l)) (n ++ test_names l) b r)
+      (facts s k n (left_value o b) left
+      ++ facts s (at_right o k (facts s k n (goes_on o) left)) (n ++ test_names left) b right)
 
 -- of a whole expression
 abbrev pub type_of : Setting → List Fact → Ex → Option TyT

@@ -1,4 +1,4 @@
--- The rules along instructions: k is what is known, l the names that are surely set.
+-- The rules along instructions: k is what is known, set the names that are surely set.
 use Rattle.std.specs.Prelude.{ℕ, true, false, not, List, [], ◌++◌, Option, Some, None}
 use Rattle.eif_base.specs.declared.code.Code.TheVariants as code
 use Rattle.eif_base.specs.declared.fault.Fault.{Fault}
@@ -8,7 +8,7 @@ use Rattle.eif_tree.specs.ExpressionPlaces.{place_of}
 use Rattle.eif_tree.specs.Tree.{TypeT, Ex, unqualified, precursor, qualified, Exs, no_exs, and_ex, Ins, assign, call, create, choose, loop, check, Inss, no_inss, and_ins, Branches, no_branches, and_branch, Otherwise, no_else, else_part}
 use Rattle.eif_classes.specs.Types.{TyT, attached_form}
 use Rattle.eif_rules.specs.FaultForms.{fault_where}
-use Rattle.eif_body_rules.specs.CallRules.{Argument, name_rule, call_rule, precursor_rule, as_instruction}
+use Rattle.eif_body_rules.specs.CallRules.{Argument, name_rule, call_rule, precursor_rule}
 use Rattle.eif_body_rules.specs.CreationRules.{Creation, of_written, creation_faults, creation_rule, unfit_type}
 use Rattle.eif_body_rules.specs.ExpressionTypes.{judge, judge_all, first_argument, type_of, faults_of}
 use Rattle.eif_body_rules.specs.Facts.{Fact}
@@ -16,13 +16,14 @@ use Rattle.eif_body_rules.specs.Judgements.{Judged, fine, first_of, ◌▹◌, �
 use Rattle.eif_body_rules.specs.KnownFacts.{known_after, known_in_loop, known_where, known_otherwise}
 use Rattle.eif_body_rules.specs.LocalFlow.{unset_reads, unset_reads_of_call, set_after, set_after_all}
 use Rattle.eif_body_rules.specs.OperatorRules.{integer, boolean}
+use Rattle.eif_body_rules.specs.Outcomes.{as_instruction}
 use Rattle.eif_body_rules.specs.Settings.{Setting, fault, fits}
 use Rattle.eif_body_rules.specs.Targets.{target_rule, assignment_faults}
 use Rattle.eif_body_rules.specs.TestRules.{test_names}
 
 -- of a whole expression
 abbrev pub expression_faults : Setting → List Fact → List (List ℕ) → Ex → List Fault
-expression_faults s k l e = faults_of s k e ++ unset_reads s k l e
+expression_faults s k set e = faults_of s k e ++ unset_reads s k set e
 
 -- ---- conditions and variants
 
@@ -35,22 +36,22 @@ unfoldable pub no_integer : Setting → Place → TyT → List Fault
 no_integer s p t = fault_where (not (fits s t integer)) (fault s code.Vwbe 2 p [])
 
 abbrev pub condition_faults : Setting → List Fact → List (List ℕ) → Ex → List Fault
-condition_faults s k l e = expression_faults s k l e ++ where_typed (type_of s k e) (no_boolean s (place_of e))
+condition_faults s k set e = expression_faults s k set e ++ where_typed (type_of s k e) (no_boolean s (place_of e))
 
 -- one assertion tells nothing to the next
 abbrev pub assertion_faults : Setting → List Fact → List (List ℕ) → Exs → List Fault
-assertion_faults s k l no_exs = []
-assertion_faults s k l (and_ex e es) = condition_faults s k l e ++ assertion_faults s k l es
+assertion_faults s k set no_exs = []
+assertion_faults s k set (and_ex e es) = condition_faults s k set e ++ assertion_faults s k set es
 
 abbrev pub variant_faults : Setting → List Fact → List (List ℕ) → Option Ex → List Fault
-variant_faults s k l None = []
-variant_faults s k l (Some e) =
-    expression_faults s k l e ++ where_typed (type_of s k e) (no_integer s (place_of e))
+variant_faults s k set None = []
+variant_faults s k set (Some e) =
+    expression_faults s k set e ++ where_typed (type_of s k e) (no_integer s (place_of e))
 
 -- the invariant, exit and variant of a loop
 abbrev pub loop_faults : Setting → List Fact → List (List ℕ) → Exs → Ex → Option Ex → List Fault
-loop_faults s k l claims exit variant =
-    assertion_faults s k l claims ++ condition_faults s k l exit ++ variant_faults s k l variant
+loop_faults s k set claims exit variant =
+    assertion_faults s k set claims ++ condition_faults s k set exit ++ variant_faults s k set variant
 
 -- ---- calls
 
@@ -75,57 +76,59 @@ judge_each s k no_exs = fine []
 judge_each s k (and_ex e es) = judge s k [] e ⊗ judge_each s k es ▹ first_argument (place_of e)
 
 abbrev pub all_unset_reads : Setting → List Fact → List (List ℕ) → Exs → List Fault
-all_unset_reads s k l no_exs = []
-all_unset_reads s k l (and_ex e es) = unset_reads s k l e ++ all_unset_reads s k l es
+all_unset_reads s k set no_exs = []
+all_unset_reads s k set (and_ex e es) = unset_reads s k set e ++ all_unset_reads s k set es
 
 -- of a target's type where none is written: its attached form
 abbrev pub of_target : Place → TyT → Option NameAt → Creation
 of_target p t y = record { code = code.Vgci; place = p; type = attached_form t; is_marked = false; creator = y }
 
 -- of a written type, for a target x of type t
-abbrev pub created_as : Setting → Creation → List ℕ → TyT → List Argument → Judged TyT
-created_as s c x t args = creation_rule s c (first_of (creation_faults s c) (unfit_type s c x t)) args
+abbrev pub created_by_written_type : Setting → Creation → List ℕ → TyT → List Argument → Judged TyT
+created_by_written_type s c x t args =
+    creation_rule s c (first_of (creation_faults s c) (unfit_type s c x t)) args
 
 -- for a target x of type t, by the written type, if there is one
-abbrev pub created :
+abbrev pub created_for :
     Setting → Place → Option TypeT → NameAt → Option NameAt → List Argument → TyT → Judged TyT
-created s p None x y args t = creation_rule s (of_target p t y) (creation_faults s (of_target p t y)) args
-created s p (Some w) x y args t = created_as s (of_written s code.Vgci p w y) x.name t args
+created_for s p None x y args t = creation_rule s (of_target p t y) (creation_faults s (of_target p t y)) args
+created_for s p (Some w) x y args t =
+    created_by_written_type s (of_written s code.Vgci p w y) x.name t args
 
--- the rules of the target come first
-unfoldable pub create_rule :
+-- judged where the arguments are typed; the rules of the target come first
+unfoldable pub create_instruction_rule :
     Setting → List Fact → Place → Option TypeT → NameAt → Option NameAt → List Argument → Judged TyT
-create_rule s k p t x y args = target_rule s k x ▹ created s p t x y args
+create_instruction_rule s k p t x y args = target_rule s k x ▹ created_for s p t x y args
 
 -- ---- instructions
 
 abbrev mutual
   pub instruction_faults : Setting → List Fact → List (List ℕ) → Ins → List Fault
-  instruction_faults s k l (assign x e) =
-      expression_faults s k l e ++ where_typed (type_of s k e) (assignment_faults s k x (place_of e))
-  instruction_faults s k l (call e) = (call_judged s k e).faults ++ unset_reads_of_call s k l e
-  instruction_faults s k l (create p t x y args) =
-      (judge_each s k args ▹ create_rule s k p t x y).faults ++ all_unset_reads s k l args
-  instruction_faults s k l (choose bs o) =
-      branch_faults s k l bs ++ otherwise_faults s (known_otherwise s k bs) l o
-  instruction_faults s k l (loop start claims exit body variant) =
-      compound_faults s k l start
-      ++ loop_faults s (known_in_loop s k start body) (set_after_all l start) claims exit variant
-      ++ compound_faults s (known_where s (known_in_loop s k start body) false exit) (set_after_all l start) body
-  instruction_faults s k l (check claims) = assertion_faults s k l claims
+  instruction_faults s k set (assign x e) =
+      expression_faults s k set e ++ where_typed (type_of s k e) (assignment_faults s k x (place_of e))
+  instruction_faults s k set (call e) = (call_judged s k e).faults ++ unset_reads_of_call s k set e
+  instruction_faults s k set (create p t x y args) =
+      (judge_each s k args ▹ create_instruction_rule s k p t x y).faults ++ all_unset_reads s k set args
+  instruction_faults s k set (choose bs o) =
+      branch_faults s k set bs ++ otherwise_faults s (known_otherwise s k bs) set o
+  instruction_faults s k set (loop start claims exit body variant) =
+      compound_faults s k set start
+      ++ loop_faults s (known_in_loop s k start body) (set_after_all set start) claims exit variant
+      ++ compound_faults s (known_where s (known_in_loop s k start body) false exit) (set_after_all set start) body
+  instruction_faults s k set (check claims) = assertion_faults s k set claims
 
   pub compound_faults : Setting → List Fact → List (List ℕ) → Inss → List Fault
-  compound_faults s k l no_inss = []
-  compound_faults s k l (and_ins i is) =
-      instruction_faults s k l i ++ compound_faults s (known_after s k i) (set_after l i) is
+  compound_faults s k set no_inss = []
+  compound_faults s k set (and_ins i is) =
+      instruction_faults s k set i ++ compound_faults s (known_after s k i) (set_after set i) is
 
   -- a condition tells its branch where it is true, and the later ones where it is false
   pub branch_faults : Setting → List Fact → List (List ℕ) → Branches → List Fault
-  branch_faults s k l no_branches = []
-  branch_faults s k l (and_branch e is bs) =
-      condition_faults s k l e ++ compound_faults s (known_where s k true e) l is
-      ++ branch_faults s (known_where s k false e) l bs
+  branch_faults s k set no_branches = []
+  branch_faults s k set (and_branch e is bs) =
+      condition_faults s k set e ++ compound_faults s (known_where s k true e) set is
+      ++ branch_faults s (known_where s k false e) set bs
 
   pub otherwise_faults : Setting → List Fact → List (List ℕ) → Otherwise → List Fault
-  otherwise_faults s k l no_else = []
-  otherwise_faults s k l (else_part is) = compound_faults s k l is
+  otherwise_faults s k set no_else = []
+  otherwise_faults s k set (else_part is) = compound_faults s k set is

@@ -34,7 +34,7 @@ abbrev mutual
 
 -- ---- one instruction
 
--- without what is known of locals of those names
+-- without what is known of locals of those names, also where a test's local hides the local
 unfoldable pub without : Setting → List (List ℕ) → List Fact → List Fact
 without s xs k = forgotten (λ x. is_local s x && is_among xs x) k
 
@@ -47,7 +47,7 @@ abbrev pub has_attached_type : Setting → Option TyT → Bool
 has_attached_type s t = option_map_or (is_attached s.universe s.number) t false
 
 -- nothing stays known of a local that the instruction assigns, but that it is attached after an assignment from an
--- attached type and after its creation; what else is known stays
+-- attached type and after its creation, also where the assignment breaks a rule; what else is known stays
 abbrev pub known_after : Setting → List Fact → Ins → List Fact
 known_after s k (assign x e) = without s (x.name ∷ []) k ++ learned s x.name (has_attached_type s (type_of s k e))
 known_after s k (create p t x y args) = without s (x.name ∷ []) k ++ learned s x.name true

@@ -10,6 +10,7 @@ pub mod Judgements
 pub mod KnownFacts
 pub mod LocalFlow
 pub mod OperatorRules
+pub mod Outcomes
 pub mod PlainFacts
 pub mod Settings
 pub mod Targets

@@ -24,70 +24,71 @@ common_names xs ys = filter (is_among ys) xs
 
 abbrev mutual
   pub set_after : List (List ℕ) → Ins → List (List ℕ)
-  set_after l (assign x e) = x.name ∷ l
-  set_after l (call e) = l
-  set_after l (create p t x y args) = x.name ∷ l
-  set_after l (choose bs o) = set_by_branches l bs (set_otherwise l o)
-  set_after l (loop start claims exit body variant) = set_after_all l start
-  set_after l (check claims) = l
+  set_after set (assign x e) = x.name ∷ set
+  set_after set (call e) = set
+  set_after set (create p t x y args) = x.name ∷ set
+  set_after set (choose bs o) = set_by_branches set bs (set_otherwise set o)
+  set_after set (loop start claims exit body variant) = set_after_all set start
+  set_after set (check claims) = set
 
   pub set_after_all : List (List ℕ) → Inss → List (List ℕ)
-  set_after_all l no_inss = l
-  set_after_all l (and_ins i is) = set_after_all (set_after l i) is
+  set_after_all set no_inss = set
+  set_after_all set (and_ins i is) = set_after_all (set_after set i) is
 
   -- what every branch sets, with the names that are set otherwise
   pub set_by_branches : List (List ℕ) → Branches → List (List ℕ) → List (List ℕ)
-  set_by_branches l no_branches other = other
-  set_by_branches l (and_branch e is bs) other = common_names (set_after_all l is) (set_by_branches l bs other)
+  set_by_branches set no_branches other = other
+  set_by_branches set (and_branch e is bs) other = common_names (set_after_all set is) (set_by_branches set bs other)
 
   -- a missing `else` sets nothing
   pub set_otherwise : List (List ℕ) → Otherwise → List (List ℕ)
-  set_otherwise l no_else = l
-  set_otherwise l (else_part is) = set_after_all l is
+  set_otherwise set no_else = set
+  set_otherwise set (else_part is) = set_after_all set is
 
--- ---- reads, where l is set; a name denotes by what is known there
+-- ---- reads, where those names are set; a name denotes by what is known there
 
 -- VEVI.1: what has that name and type is read where it isn't surely set; a self-initialising type is always set
 unfoldable pub unset_read : Setting → List (List ℕ) → Place → List ℕ → TyT → List Fault
-unset_read s l p x t =
-    fault_where (not (is_self_initialising t) && not (is_among l x)) (fault s code.Vevi 1 p x)
+unset_read s set p x t =
+    fault_where (not (is_self_initialising t) && not (is_among set x)) (fault s code.Vevi 1 p x)
 
 -- the name is read as a local
 abbrev pub unset_local : Setting → List (List ℕ) → Place → List ℕ → Meaning → List Fault
-unset_local s l p x (entity e) = if e.is_local then unset_read s l p x e.type else []
-unset_local s l p x _ = []
+unset_local s set p x (entity e) = if e.is_local then unset_read s set p x e.type else []
+unset_local s set p x _ = []
 
 -- a call with arguments is no read of a local
 unfoldable pub unset_name : Setting → List Fact → List (List ℕ) → Place → List ℕ → Exs → List Fault
-unset_name s k l p x no_exs = unset_local s l p x (meaning s k x)
-unset_name s k l p x (and_ex e es) = []
+unset_name s k set p x no_exs = unset_local s set p x (meaning s k x)
+unset_name s k set p x (and_ex e es) = []
 
--- known facts and earlier tests go through an expression as its judgement says
+-- of each read that has a type, whatever stands around it; known facts and earlier tests go through an expression as
+-- its judgement says
 abbrev mutual
   pub unset : Setting → List Fact → List (List ℕ) → List (List ℕ) → Ex → List Fault
-  unset s k n l (literal p x) = []
-  unset s k n l (void_value p) = []
-  unset s k n l (current_value p) = []
-  unset s k n l (result_value p) = option_map_or (unset_read s l p result_name) s.result []
-  unset s k n l (unqualified p x args) = unset_in s k n l args ++ unset_name s k l p x args
-  unset s k n l (precursor p x args) = unset_in s k n l args
-  unset s k n l (qualified p e x args) = unset s k n l e ++ unset_in s k (n ++ test_names e) l args
-  unset s k n l (creation p t x args) = unset_in s k n l args
-  unset s k n l (test p t y e) = unset s k (n ++ local_names y) l e
-  unset s k n l (paren p e) = unset s k n l e
-  unset s k n l (unary p o e) = unset s k n l e
-  unset s k n l (binary p o q a b) =
-      unset s k n l a ++ unset s (at_right o k (facts s k n (goes_on o) a)) (n ++ test_names a) l b
+  unset s k n set (literal p x) = []
+  unset s k n set (void_value p) = []
+  unset s k n set (current_value p) = []
+  unset s k n set (result_value p) = option_map_or (unset_read s set p result_name) s.result []
+  unset s k n set (unqualified p x args) = unset_in s k n set args ++ unset_name s k set p x args
+  unset s k n set (precursor p x args) = unset_in s k n set args
+  unset s k n set (qualified p e x args) = unset s k n set e ++ unset_in s k (n ++ test_names e) set args
+  unset s k n set (creation p t x args) = unset_in s k n set args
+  unset s k n set (test p t local e) = unset s k (n ++ local_names local) set e
+  unset s k n set (paren p e) = unset s k n set e
+  unset s k n set (unary p o e) = unset s k n set e
+  unset s k n set (binary p o q left right) =
+      unset s k n set left ++ unset s (at_right o k (facts s k n (goes_on o) left)) (n ++ test_names left) set right
 
   pub unset_in : Setting → List Fact → List (List ℕ) → List (List ℕ) → Exs → List Fault
-  unset_in s k n l no_exs = []
-  unset_in s k n l (and_ex e es) = unset s k n l e ++ unset_in s k (n ++ test_names e) l es
+  unset_in s k n set no_exs = []
+  unset_in s k n set (and_ex e es) = unset s k n set e ++ unset_in s k (n ++ test_names e) set es
 
 -- of a whole expression
 abbrev pub unset_reads : Setting → List Fact → List (List ℕ) → Ex → List Fault
-unset_reads s k l e = unset s k [] l e
+unset_reads s k set e = unset s k [] set e
 
 -- of a call that stands as an instruction, which isn't read itself
 abbrev pub unset_reads_of_call : Setting → List Fact → List (List ℕ) → Ex → List Fault
-unset_reads_of_call s k l (unqualified p x args) = unset_in s k [] l args
-unset_reads_of_call s k l e = unset_reads s k l e
+unset_reads_of_call s k set (unqualified p x args) = unset_in s k [] set args
+unset_reads_of_call s k set e = unset_reads s k set e

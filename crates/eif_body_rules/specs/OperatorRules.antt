@@ -38,6 +38,7 @@ literal_type (is.Bool i) = boolean
 
 -- ---- operators
 
+-- with one space, however it is written
 abbrev pub operator_text : Op → List ℕ
 operator_text op.Plus = codes "+"
 operator_text op.Minus = codes "-"

@@ -30,7 +30,7 @@ local_place (attached y ∷ k) x = local_place k x
 local_place (usable_at y p ∷ k) x = if bytes_eq y x then Some (earlier p (local_place k x)) else local_place k x
 
 abbrev pub told_by_test : (List ℕ → Bool) → Place → Option NameAt → Ex → List PlainFact
-told_by_test testable p l e = map attached (tested_name testable e) ++ map (λ x. usable_at x p) (local_names l)
+told_by_test testable p local e = map attached (tested_name testable e) ++ map (λ x. usable_at x p) (local_names local)
 
 -- where the expression has the value b; names of arguments, locals and tests' locals are testable
 abbrev pub plain_facts : (List ℕ → Bool) → Bool → Ex → List PlainFact
@@ -42,9 +42,9 @@ plain_facts testable b (unqualified p x args) = []
 plain_facts testable b (precursor p x args) = []
 plain_facts testable b (qualified p e x args) = []
 plain_facts testable b (creation p t x args) = []
-plain_facts testable b (test p t l e) = if b then told_by_test testable p l e else []
+plain_facts testable b (test p t local e) = if b then told_by_test testable p local e else []
 plain_facts testable b (paren p e) = plain_facts testable b e
 plain_facts testable b (unary p o e) = told_by_unary o (plain_facts testable (not b) e)
-plain_facts testable b (binary p o q l r) =
-    map attached (told_by_void testable o b l r)
-    ++ told_by_operands o b (plain_facts testable (left_value o b) l ++ plain_facts testable b r)
+plain_facts testable b (binary p o q left right) =
+    map attached (told_by_void testable o b left right)
+    ++ told_by_operands o b (plain_facts testable (left_value o b) left ++ plain_facts testable b right)

@@ -52,8 +52,8 @@ entity_of s x = find (λ e. bytes_eq e.name x) s.entities
 unfoldable pub is_local : Setting → List ℕ → Bool
 is_local s x = option_map_or (λ e. e.is_local) (entity_of s x) false
 
--- a void test of the name tells that it is attached: an argument or a local. A test's local is attached wherever it may
--- be used, so that nothing has to be told of it
+-- a void test of the name tells that it is attached: an argument or a local. The type of a test's local is in attached
+-- form already, or it is NONE or none, so that nothing has to be told of it
 unfoldable pub is_testable : Setting → List ℕ → Bool
 is_testable s x = is_some (entity_of s x)
 

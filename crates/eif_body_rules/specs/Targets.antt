@@ -56,7 +56,7 @@ target_rule s k x =
 abbrev pub unfit_source : Setting → NameAt → Place → TyT → TyT → List Fault
 unfit_source s x p source target = fault_where (not (fits s source target)) (fault s code.Vbar 2 p x.name)
 
--- of an assignment whose source has that type; VBAR.2 is judged apart
+-- of an assignment whose source has that type; VBAR.2 is judged apart, also where VBAR.1 is broken
 unfoldable pub assignment_faults : Setting → List Fact → NameAt → Place → TyT → List Fault
 assignment_faults s k x p t =
     (target_rule s k x).faults ++ option_map_or (unfit_source s x p t) (target_type s k x.name) []

@@ -20,7 +20,7 @@ use Rattle.eif_body_rules.specs.Settings.{Setting, fault, Meaning, unknown, mean
 -- ---- the locals of the tests in an expression, by the first tokens of the tests: an outer test before those in it
 
 abbrev pub local_names : Option NameAt → List (List ℕ)
-local_names l = option_to_list (option_map (λ n. n.name) l)
+local_names local = option_to_list (option_map (λ n. n.name) local)
 
 abbrev mutual
   pub test_names : Ex → List (List ℕ)
@@ -32,10 +32,10 @@ abbrev mutual
   test_names (precursor p x args) = test_names_in args
   test_names (qualified p e x args) = test_names e ++ test_names_in args
   test_names (creation p t x args) = test_names_in args
-  test_names (test p t l e) = local_names l ++ test_names e
+  test_names (test p t local e) = local_names local ++ test_names e
   test_names (paren p e) = test_names e
   test_names (unary p o e) = test_names e
-  test_names (binary p o q l r) = test_names l ++ test_names r
+  test_names (binary p o q left right) = test_names left ++ test_names right
 
   pub test_names_in : Exs → List (List ℕ)
   test_names_in no_exs = []
@@ -49,14 +49,14 @@ denotes _ = true
 
 -- VUOT.1: the local has the name of a feature, argument or local, or of a test's local that may be used here
 abbrev pub taken_name : Setting → List Fact → NameAt → List Fault
-taken_name s k l = fault_where (denotes (meaning s k l.name)) (fault s code.Vuot 1 l.place l.name)
+taken_name s k local = fault_where (denotes (meaning s k local.name)) (fault s code.Vuot 1 local.place local.name)
 
 -- VUOT.2: an earlier test in the same whole expression has the name
 abbrev pub repeated_name : Setting → List (List ℕ) → NameAt → List Fault
-repeated_name s earlier l = fault_where (is_among earlier l.name) (fault s code.Vuot 2 l.place l.name)
+repeated_name s earlier local = fault_where (is_among earlier local.name) (fault s code.Vuot 2 local.place local.name)
 
 abbrev pub local_faults : Setting → List Fact → List (List ℕ) → NameAt → List Fault
-local_faults s k earlier l = first_of (taken_name s k l) (repeated_name s earlier l)
+local_faults s k earlier local = first_of (taken_name s k local) (repeated_name s earlier local)
 
 -- VUOT.3: the written type has the mark detachable
 abbrev pub wrong_test_type : Setting → TypeT → List Fault
@@ -64,8 +64,8 @@ wrong_test_type s t = fault_where (is_detachable (type_mark t)) (fault s code.Vu
 
 -- the first of these
 unfoldable pub test_faults : Setting → List Fact → List (List ℕ) → Option TypeT → Option NameAt → List Fault
-test_faults s k earlier t l =
-    first_of (option_map_or (local_faults s k earlier) l []) (option_map_or (wrong_test_type s) t [])
+test_faults s k earlier t local =
+    first_of (option_map_or (local_faults s k earlier) local []) (option_map_or (wrong_test_type s) t [])
 
 -- a test that keeps them gives a BOOLEAN
 abbrev pub test_rule : List Fault → TyT → Judged TyT
@@ -80,4 +80,4 @@ local_type s (Some t) tested = Some (attached_form (resolved s.universe s.text t
 
 -- the local of a test at p may be used
 unfoldable pub bound_local : Place → Option NameAt → Option TyT → List Fact
-bound_local p l t = map (λ x. usable x (record { place = p; type = t })) (local_names l)
+bound_local p local t = map (λ x. usable x (record { place = p; type = t })) (local_names local)

@@ -29,11 +29,11 @@ attached_erased [] = refl
 attached_erased (x ∷ xs) = ap (λ zs. plain.attached x ∷ zs) (attached_erased xs)
 
 bound_erased :
-    (p : Place) (l : Option NameAt) (t : Option TyT)
-    → map erased (bound_local p l t) ≡ map (λ x. plain.usable_at x p) (local_names l)
+    (p : Place) (local : Option NameAt) (t : Option TyT)
+    → map erased (bound_local p local t) ≡ map (λ x. plain.usable_at x p) (local_names local)
 unfolding bound_local
 bound_erased p None t = refl
-bound_erased p (Some l) t = refl
+bound_erased p (Some x) t = refl
 
 where_true :
     (b : Bool) (xs : List Fact) (a : List plain.PlainFact)
@@ -58,14 +58,14 @@ by_tree s k n b (unqualified p x args) = refl
 by_tree s k n b (precursor p x args) = refl
 by_tree s k n b (qualified p e x args) = refl
 by_tree s k n b (creation p t x args) = refl
-by_tree s k n b (test p t l e) =
-    let seen = local_type s t (judge s k (n ++ local_names l) e).value in
+by_tree s k n b (test p t local e) =
+    let seen = local_type s t (judge s k (n ++ local_names local) e).value in
     where_true b _ _
-    (joined_erased _ _ _ _ (attached_erased (tested_name (is_testable s) e)) (bound_erased p l seen))
+    (joined_erased _ _ _ _ (attached_erased (tested_name (is_testable s) e)) (bound_erased p local seen))
 by_tree s k n b (paren p e) = by_tree s k n b e
 by_tree s k n b (unary p o e) = unary_erased o _ _ (by_tree s k n (not b) e)
-by_tree s k n b (binary p o q l r) =
-    let right = at_right o k (facts s k n (goes_on o) l) in
-    joined_erased _ _ _ _ (attached_erased (told_by_void (is_testable s) o b l r))
+by_tree s k n b (binary p o q left right) =
+    let known = at_right o k (facts s k n (goes_on o) left) in
+    joined_erased _ _ _ _ (attached_erased (told_by_void (is_testable s) o b left right))
     (where_true (tells_both o b) _ _
-    (joined_erased _ _ _ _ (by_tree s k n (left_value o b) l) (by_tree s right (n ++ test_names l) b r)))
+    (joined_erased _ _ _ _ (by_tree s k n (left_value o b) left) (by_tree s known (n ++ test_names left) b right)))

@@ -7,7 +7,7 @@ use Rattle.eif_tree.specs.Tree.{void_value, current_value, result_value, Ins, as
 use Rattle.eif_tree.specs.View.{exs_from, inss_from}
 use Rattle.eif_system.specs.TreeForms.{bare_class, parent_clause, procedure}
 use Rattle.eif_body_rules.specs.BodyRules.{body_faults}
-use Rattle.eif_body_rules_laws.specs.PlacedTexts.{at, there, name, plain, maybe, int, text, value, apply, dot, parent_version, new, operation, make, group, routine_of, requires, ensures, clients, features, declares, breach, alone, f_does}
+use Rattle.eif_body_rules_laws.specs.PlacedTexts.{at, there, third, name, plain, maybe, int, text, value, apply, dot, parent_version, new, operation, make, group, routine_of, requires, ensures, clients, creators, features, declares, breach, alone, f_does}
 
 -- class P feature f do end g: INTEGER do end end
 abbrev pub class_p : ClassT
@@ -15,6 +15,33 @@ class_p =
     declares (there 7) "p"
     (procedure (name (there 17) "f") (inss_from [])
     ∷ routine_of (name (there 26) "g") [] (Some (plain (there 29) "integer")) [] [] ∷ [])
+
+-- class C create make feature make (i: INTEGER) do end feature {NONE} h (i: INTEGER) do end end
+abbrev pub class_c : ClassT
+class_c =
+    record (bare_class (there 7) (codes "c")) {
+      creators = creators no_clients (name (there 16) "make" ∷ []) ∷ [];
+      features =
+          features no_clients
+          (routine_of (name (there 29) "make")
+          (group (name (there 35) "i" ∷ []) (plain (there 38) "integer") ∷ []) None [] [] ∷ [])
+          ∷ features (clients (name (there 63) "none" ∷ []))
+          (routine_of (name (there 69) "h") (group (name (there 72) "i" ∷ []) (plain (there 75) "integer") ∷ [])
+          None [] [] ∷ []) ∷ [];
+    }
+
+-- class Q feature f do end end
+abbrev pub class_q : ClassT
+class_q = declares (third 7) "q" (procedure (name (third 17) "f") (inss_from []) ∷ [])
+
+-- class C2 feature {P} g do end end
+abbrev pub class_c2 : ClassT
+class_c2 =
+    record (bare_class (third 7) (codes "c2")) {
+      features =
+          features (clients (name (third 19) "p" ∷ [])) (procedure (name (third 22) "g") (inss_from []) ∷ [])
+          ∷ [];
+    }
 
 -- class B feature f (x: STRING) do .. end end
 abbrev pub with_string : List Ins → ClassT
@@ -115,6 +142,59 @@ pub record PrecursorExamples : Type 0 where
   pub arguments_first :
       alone (f_does (call (parent_version (at 22) None (value (at 33) "nope" ∷ [])) ∷ []))
       ≡ breach "b" "f" code.Veen 1 (at 33) "nope" ∷ []
+  -- of no class: class B inherit P redefine f end feature f do Precursor {NOPE} end end
+  pub unknown_parent :
+      body_faults
+      ((record (bare_class (at 7) (codes "b")) {
+        parents = record (parent_clause (plain (at 17) "p")) { redefines = name (at 28) "f" ∷ [] } ∷ [];
+        features =
+            features no_clients
+            (procedure (name (at 42) "f")
+            (inss_from (call (parent_version (at 47) (Some (name (at 58) "nope")) []) ∷ [])) ∷ []) ∷ [];
+      })
+      ∷ class_p ∷ [])
+      ≡ breach "b" "f" code.Vdpr 1 (at 47) "f" ∷ []
+  -- of two parents: class B inherit P redefine f end Q redefine f end feature f do Precursor end end
+  pub two_parents :
+      body_faults
+      ((record (bare_class (at 7) (codes "b")) {
+        parents =
+            record (parent_clause (plain (at 17) "p")) { redefines = name (at 28) "f" ∷ [] }
+            ∷ record (parent_clause (plain (at 34) "q")) { redefines = name (at 45) "f" ∷ [] } ∷ [];
+        features =
+            features no_clients
+            (procedure (name (at 59) "f") (inss_from (call (parent_version (at 64) None []) ∷ [])) ∷ []) ∷ [];
+      })
+      ∷ class_p ∷ class_q ∷ [])
+      ≡ breach "b" "f" code.Vdpr 1 (at 64) "f" ∷ []
+  -- kept, of one of the two: class B inherit P redefine f end Q redefine f end feature f do Precursor {Q} end end
+  pub one_of_two :
+      body_faults
+      ((record (bare_class (at 7) (codes "b")) {
+        parents =
+            record (parent_clause (plain (at 17) "p")) { redefines = name (at 28) "f" ∷ [] }
+            ∷ record (parent_clause (plain (at 34) "q")) { redefines = name (at 45) "f" ∷ [] } ∷ [];
+        features =
+            features no_clients
+            (procedure (name (at 59) "f")
+            (inss_from (call (parent_version (at 64) (Some (name (at 75) "q")) []) ∷ [])) ∷ []) ∷ [];
+      })
+      ∷ class_p ∷ class_q ∷ [])
+      ≡ []
+  -- kept, where one of the two is undefined: class B inherit P redefine f end Q undefine f end feature f do Precursor
+  -- end end
+  pub one_undefined :
+      body_faults
+      ((record (bare_class (at 7) (codes "b")) {
+        parents =
+            record (parent_clause (plain (at 17) "p")) { redefines = name (at 28) "f" ∷ [] }
+            ∷ record (parent_clause (plain (at 34) "q")) { undefines = name (at 45) "f" ∷ [] } ∷ [];
+        features =
+            features no_clients
+            (procedure (name (at 59) "f") (inss_from (call (parent_version (at 64) None []) ∷ [])) ∷ []) ∷ [];
+      })
+      ∷ class_p ∷ class_q ∷ [])
+      ≡ []
 
 -- names
 pub record NameExamples : Type 0 where
@@ -213,8 +293,8 @@ pub record QualifiedExamples : Type 0 where
             ∷ [];
       }) ∷ [])
       ≡ breach "b" "f" code.Vuex 2 (at 31) "g" ∷ []
-  -- on Current: class B feature {C} g do end f do Current.g end end; class C end
-  pub to_heirs_alone :
+  -- on Current, available to another class alone: class B feature {C} g do end f do Current.g end end; class C end
+  pub to_another_class_alone :
       body_faults
       ((record (bare_class (at 7) (codes "b")) {
         features =
@@ -238,6 +318,26 @@ pub record QualifiedExamples : Type 0 where
             (procedure (name (there 21) "g") (inss_from []) ∷ [])
             ∷ [];
       }) ∷ [])
+      ≡ []
+  -- VUEX comes before VUAR, with C: class B feature f (x: C) do x.h ("a") end end
+  pub availability_first :
+      body_faults
+      ((declares (at 7) "b"
+      (routine_of (name (at 17) "f") (group (name (at 20) "x" ∷ []) (plain (at 23) "c") ∷ []) None []
+      (call (dot (value (at 29) "x") (at 31) "h" (text (at 34) "a" ∷ [])) ∷ []) ∷ []))
+      ∷ class_c ∷ [])
+      ≡ breach "b" "f" code.Vuex 2 (at 31) "h" ∷ []
+  -- kept, available to P, of which B is an heir: class B inherit P feature f2 (x: C2) do x.g end end
+  pub available_to_heirs :
+      body_faults
+      ((record (bare_class (at 7) (codes "b")) {
+        parents = parent_clause (plain (at 17) "p") ∷ [];
+        features =
+            features no_clients
+            (routine_of (name (at 27) "f2") (group (name (at 31) "x" ∷ []) (plain (at 34) "c2") ∷ []) None []
+            (call (dot (value (at 41) "x") (at 43) "g" []) ∷ []) ∷ []) ∷ [];
+      })
+      ∷ class_p ∷ class_c2 ∷ [])
       ≡ []
 
 -- arguments
@@ -325,3 +425,34 @@ pub record UsedExamples : Type 0 where
   pub arguments_first :
       alone (f_does (call (apply (at 22) "f" (value (at 25) "f" ∷ [])) ∷ []))
       ≡ breach "b" "f" code.Xuse 1 (at 25) "f" ∷ []
+  -- VUAR comes before XUSE: class B feature f (i: INTEGER) do print (f ("a")) end end
+  pub argument_first :
+      alone
+      (declares (at 7) "b"
+      (routine_of (name (at 17) "f") (group (name (at 20) "i" ∷ []) (plain (at 23) "integer") ∷ []) None []
+      (call (apply (at 35) "print" (apply (at 42) "f" (text (at 45) "a" ∷ []) ∷ [])) ∷ []) ∷ []))
+      ≡ breach "b" "f" code.Vuar 2 (at 45) "f" ∷ []
+  -- XUSE.1, of Precursor: class B inherit P redefine f end feature f do print (Precursor) end end
+  pub no_value_of_precursor :
+      body_faults
+      ((record (bare_class (at 7) (codes "b")) {
+        parents = record (parent_clause (plain (at 17) "p")) { redefines = name (at 28) "f" ∷ [] } ∷ [];
+        features =
+            features no_clients
+            (procedure (name (at 42) "f")
+            (inss_from (call (apply (at 47) "print" (parent_version (at 54) None [] ∷ [])) ∷ [])) ∷ []) ∷ [];
+      })
+      ∷ class_p ∷ [])
+      ≡ breach "b" "f" code.Xuse 1 (at 54) "f" ∷ []
+  -- XUSE.2, of Precursor: class B inherit P redefine g end feature g: INTEGER do Precursor end end
+  pub precursor_unused :
+      body_faults
+      ((record (bare_class (at 7) (codes "b")) {
+        parents = record (parent_clause (plain (at 17) "p")) { redefines = name (at 28) "g" ∷ [] } ∷ [];
+        features =
+            features no_clients
+            (routine_of (name (at 42) "g") [] (Some (plain (at 45) "integer")) []
+            (call (parent_version (at 56) None []) ∷ []) ∷ []) ∷ [];
+      })
+      ∷ class_p ∷ [])
+      ≡ breach "b" "g" code.Xuse 2 (at 56) "g" ∷ []

@@ -7,7 +7,8 @@ use Rattle.eif_tree.specs.Tree.{call, no_clients, ClassT}
 use Rattle.eif_tree.specs.View.{inss_from}
 use Rattle.eif_system.specs.TreeForms.{bare_class, procedure}
 use Rattle.eif_body_rules.specs.BodyRules.{body_faults}
-use Rattle.eif_body_rules_laws.specs.PlacedTexts.{at, there, name, written, plain, maybe, int, apply, new, make, group, routine_of, formal, creators, features, declares, breach, alone, f_does}
+use Rattle.eif_body_rules_laws.specs.CallExamples.{class_c}
+use Rattle.eif_body_rules_laws.specs.PlacedTexts.{at, there, name, written, plain, maybe, int, text, value, apply, new, make, group, routine_of, formal, clients, creators, features, declares, breach, alone, f_does}
 
 -- class C create make feature make do end h do end end
 abbrev pub closed_class : ClassT
@@ -24,6 +25,22 @@ closed_class =
 -- deferred class C end
 abbrev pub deferred_class : ClassT
 deferred_class = record (bare_class (there 16) (codes "c")) { is_deferred = true }
+
+-- deferred class D end
+abbrev pub deferred_d : ClassT
+deferred_d = record (bare_class (there 16) (codes "d")) { is_deferred = true }
+
+-- class C3 create {NONE} make feature make do end end
+abbrev pub class_c3 : ClassT
+class_c3 =
+    record (bare_class (there 7) (codes "c3")) {
+      creators = creators (clients (name (there 18) "none" ∷ [])) (name (there 24) "make" ∷ []) ∷ [];
+      features = features no_clients (procedure (name (there 37) "make") (inss_from []) ∷ []) ∷ [];
+    }
+
+-- class C4 end
+abbrev pub class_c4 : ClassT
+class_c4 = bare_class (there 7) (codes "c4")
 
 -- creation instructions
 pub record InstructionExamples : Type 0 where
@@ -134,6 +151,47 @@ pub record InstructionExamples : Type 0 where
       (make (at 47) None (name (at 54) "x") (Some (name (at 56) "make_filled"))
       (int (at 69) 1 ∷ int (at 72) 0 ∷ int (at 75) 0 ∷ []) ∷ []) ∷ []))
       ≡ []
+  -- VGCI comes before VUAR, with the C of the calls: class B feature f local x: STRING do create {C} x.make ("a") end
+  -- end
+  pub type_first :
+      body_faults
+      ((declares (at 7) "b"
+      (routine_of (name (at 17) "f") [] None (group (name (at 25) "x" ∷ []) (plain (at 28) "string") ∷ [])
+      (make (at 38) (Some (plain (at 46) "c")) (name (at 49) "x") (Some (name (at 51) "make"))
+      (text (at 57) "a" ∷ []) ∷ []) ∷ []))
+      ∷ class_c ∷ [])
+      ≡ breach "b" "f" code.Vgci 5 (at 38) "x" ∷ []
+  -- VGCI.1 comes before VGCI.2: class B feature f local x: D do create {detachable D} x.nope end end
+  pub mark_first :
+      body_faults
+      ((declares (at 7) "b"
+      (routine_of (name (at 17) "f") [] None (group (name (at 25) "x" ∷ []) (plain (at 28) "d") ∷ [])
+      (make (at 33) (Some (maybe (at 41) (at 52) "d")) (name (at 55) "x") (Some (name (at 57) "nope")) [] ∷ [])
+      ∷ []))
+      ∷ deferred_d ∷ [])
+      ≡ breach "b" "f" code.Vgci 1 (at 33) "d" ∷ []
+  -- VGCI.2 comes before VGCI.4: class B feature f local x: D do create x.nope end end
+  pub deferred_first :
+      body_faults
+      ((declares (at 7) "b"
+      (routine_of (name (at 17) "f") [] None (group (name (at 25) "x" ∷ []) (plain (at 28) "d") ∷ [])
+      (make (at 33) None (name (at 40) "x") (Some (name (at 42) "nope")) [] ∷ []) ∷ []))
+      ∷ deferred_d ∷ [])
+      ≡ breach "b" "f" code.Vgci 2 (at 33) "d" ∷ []
+  -- kept, of a class without a creators part: class B feature f local x: C4 do create x end end
+  pub default_creator :
+      body_faults
+      ((declares (at 7) "b"
+      (routine_of (name (at 17) "f") [] None (group (name (at 25) "x" ∷ []) (plain (at 28) "c4") ∷ [])
+      (make (at 34) None (name (at 41) "x") None [] ∷ []) ∷ []))
+      ∷ class_c4 ∷ [])
+      ≡ []
+  -- the arguments come before the target: create nope.make (huh)
+  pub arguments_first :
+      alone
+      (f_does
+      (make (at 22) None (name (at 29) "nope") (Some (name (at 34) "make")) (value (at 40) "huh" ∷ []) ∷ []))
+      ≡ breach "b" "f" code.Veen 1 (at 40) "huh" ∷ []
 
 -- creation expressions
 pub record ExpressionExamples : Type 0 where
@@ -187,3 +245,11 @@ pub record ExpressionExamples : Type 0 where
       ∷ []))
       ∷ closed_class ∷ [])
       ≡ []
+  -- VGCE.4, a creator that is available to no class: print (create {C3}.make)
+  pub not_available :
+      body_faults
+      ((f_does
+      (call (apply (at 22) "print" (new (at 29) (plain (at 37) "c3") (Some (name (at 41) "make")) [] ∷ []))
+      ∷ []))
+      ∷ class_c3 ∷ [])
+      ≡ breach "b" "f" code.Vgce 4 (at 29) "make" ∷ []

@@ -318,19 +318,17 @@ pub record ScopeExamples : Type 0 where
       (call (apply (at 115) "print" (dot (value (at 122) "z") (at 124) "is_empty" [] ∷ [])) ∷ [])
       ∷ []) None ∷ []))
       ≡ breach "b" "f" code.Vuot 2 (at 108) "z" ∷ []
-  -- not applied to a feature: class B feature f (x, y: detachable STRING) do if attached Current as g then end if g
-  -- /= Void then print (g.count) end end g: detachable STRING h do end end
+  -- not applied to a feature: class B feature f (x, y: detachable STRING) do if attached Current as g or g = Void
+  -- then else print (g.count) end end g: detachable STRING end
   pub feature :
       alone
       (declares (at 7) "b"
       (routine_of (name (at 17) "f")
       (group (name (at 20) "x" ∷ name (at 23) "y" ∷ []) (maybe (at 26) (at 37) "string") ∷ []) None []
-      (if_true (branch (test (at 51) None (Some (name (at 71) "g")) (current_value (at 60))) [] ∷ [])
-      None
-      ∷ if_true
-      (branch (operation (value (at 85) "g") (at 87) op.NotEqual (void_value (at 90)))
-      (call (apply (at 100) "print" (dot (value (at 107) "g") (at 109) "count" [] ∷ [])) ∷ [])
-      ∷ []) None ∷ [])
-      ∷ attribute_of (name (at 124) "g") (maybe (at 127) (at 138) "string")
-      ∷ procedure (name (at 145) "h") (inss_from []) ∷ []))
-      ≡ breach "b" "f" code.Vuot 1 (at 71) "g" ∷ breach "b" "f" code.Vuta 1 (at 107) "count" ∷ []
+      (if_true
+      (branch
+      (operation (test (at 51) None (Some (name (at 71) "g")) (current_value (at 60))) (at 73) op.Or
+      (operation (value (at 76) "g") (at 78) op.Equal (void_value (at 80)))) [] ∷ [])
+      (Some (call (apply (at 95) "print" (dot (value (at 102) "g") (at 104) "count" [] ∷ [])) ∷ [])) ∷ [])
+      ∷ attribute_of (name (at 119) "g") (maybe (at 122) (at 133) "string") ∷ []))
+      ≡ breach "b" "f" code.Vuot 1 (at 71) "g" ∷ breach "b" "f" code.Vuta 1 (at 102) "count" ∷ []

@@ -172,6 +172,18 @@ pub record LocalExamples : Type 0 where
       (branch (test (at 41) None (Some (name (at 57) "x")) (text (at 50) "a"))
       (call (apply (at 64) "print" (value (at 71) "x" ∷ [])) ∷ []) ∷ []) None ∷ []))
       ≡ breach "b" "f" code.Vuot 1 (at 57) "x" ∷ []
+  -- in each part of a loop: from invariant x /= Void until x = Void loop print (x) variant x.count end
+  pub in_loop :
+      alone
+      (with_local
+      (repeat [] (operation (value (at 53) "x") (at 55) op.NotEqual (void_value (at 58)) ∷ [])
+      (operation (value (at 69) "x") (at 71) op.Equal (void_value (at 73)))
+      (call (apply (at 83) "print" (value (at 90) "x" ∷ [])) ∷ [])
+      (Some (dot (value (at 101) "x") (at 103) "count" [])) ∷ []))
+      ≡ breach "b" "f" code.Vevi 1 (at 53) "x"
+      ∷ breach "b" "f" code.Vevi 1 (at 69) "x"
+      ∷ breach "b" "f" code.Vevi 1 (at 101) "x"
+      ∷ breach "b" "f" code.Vevi 1 (at 90) "x" ∷ []
 
 -- Result
 pub record ResultExamples : Type 0 where

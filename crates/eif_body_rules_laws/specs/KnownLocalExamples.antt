@@ -60,8 +60,8 @@ pub record KnownLocalExamples : Type 0 where
       (call (dot (value (at 103) "x") (at 105) "make" [])
       ∷ assign (name (at 110) "x") (void_value (at 115)) ∷ []) None ∷ []) ∷ []) None ∷ []))
       ≡ breach "app" "make" code.Vuta 1 (at 103) "make" ∷ []
-  -- kept, in a loop that assigns it after from alone: from create x.make until x.make_it loop x.make variant
-  -- x.number end
+  -- known in exit, body and variant, so VUEX and not VUTA, where only the start of the loop assigns it: from create
+  -- x.make until x.make_it loop x.make variant x.number end
   pub loop_keeps :
       alone
       (make_does
@@ -168,3 +168,27 @@ pub record KnownLocalExamples : Type 0 where
             ∷ [];
       })
       ≡ breach "b" "f" code.Vuta 1 (at 108) "out" ∷ []
+  -- not after a loop that assigns it: from create x.make until True loop end x.make
+  pub loop_start_assigns :
+      alone
+      (make_does
+      (repeat (make (at 68) None (name (at 75) "x") (Some (name (at 77) "make")) [] ∷ []) []
+      (truth (at 88) true) [] None ∷ call (dot (value (at 102) "x") (at 104) "make" []) ∷ []))
+      ≡ breach "app" "make" code.Vuta 1 (at 102) "make" ∷ []
+  -- not after an if that assigns it, also where each branch creates it: if True then create x.make else create x.make
+  -- end x.make
+  pub each_branch_assigns :
+      alone
+      (make_does
+      (if_true
+      (branch (truth (at 66) true) (make (at 76) None (name (at 83) "x") (Some (name (at 85) "make")) [] ∷ [])
+      ∷ []) (Some (make (at 95) None (name (at 102) "x") (Some (name (at 104) "make")) [] ∷ []))
+      ∷ call (dot (value (at 113) "x") (at 115) "make" []) ∷ []))
+      ≡ breach "app" "make" code.Vuta 1 (at 113) "make" ∷ []
+  -- not after the loop: from until x = Void loop end x.make
+  pub after_loop :
+      alone
+      (make_does
+      (repeat [] [] (operation (value (at 74) "x") (at 76) op.Equal (void_value (at 78))) [] None
+      ∷ call (dot (value (at 92) "x") (at 94) "make" []) ∷ []))
+      ≡ breach "app" "make" code.Vuta 1 (at 92) "make" ∷ []

@@ -16,12 +16,15 @@ use Rattle.eif_tree.specs.View.{types_from, exs_from, inss_from, branches_from}
 use Rattle.eif_system.specs.TreeForms.{inline, named, declared, procedure, bare_class, with_features}
 use Rattle.eif_body_rules.specs.BodyRules.{body_faults}
 
--- in a text that is one line: in the first file, in the second
+-- in a text that is one line: in the first file, in the second, in the third
 abbrev pub at : ℕ → Place
 at column = inline 0 column
 
 abbrev pub there : ℕ → Place
 there column = inline 1 column
+
+abbrev pub third : ℕ → Place
+third column = inline 2 column
 
 abbrev pub name : Place → String → NameAt
 name p s = named p (codes s)

@@ -6,7 +6,7 @@ use Rattle.eif_tree.specs.declared.tree.Mark.TheVariants.{Plain}
 use Rattle.eif_tree.specs.declared.tree.Op.TheVariants as op
 use Rattle.eif_tree.specs.Tree.{void_value, test, Ins, assign, call, no_clients, ClassT}
 use Rattle.eif_tree.specs.View.{inss_from}
-use Rattle.eif_system.specs.TreeForms.{spot, bare_class, procedure, attribute_of}
+use Rattle.eif_system.specs.TreeForms.{spot, bare_class, parent_clause, procedure, attribute_of}
 use Rattle.eif_body_rules.specs.BodyRules.{body_faults}
 use Rattle.eif_body_rules_laws.specs.PlacedTexts.{at, there, name, written, plain, maybe, value, apply, dot, operation, make, branch, if_true, group, routine_of, formal, clients, creators, features, declares, breach, alone}
 
@@ -177,6 +177,13 @@ class_k =
           ∷ [];
     }
 
+-- class P feature f (x: P): ANY do Result := x end end
+abbrev pub class_p : ClassT
+class_p =
+    declares (at 7) "p"
+    (routine_of (name (at 17) "f") (group (name (at 20) "x" ∷ []) (plain (at 23) "p") ∷ [])
+    (Some (plain (at 27) "any")) [] (assign (name (at 34) "result") (value (at 44) "x") ∷ []) ∷ [])
+
 pub record SmallSystemExamples : Type 0 where
   -- an array of attached items does not conform to one of detachable items
   pub generic_types :
@@ -222,3 +229,19 @@ pub record SmallSystemExamples : Type 0 where
       }) ∷ [])
       ≡ breach "app" "make" code.Vgci 4 (there 50) "make"
       ∷ breach "app" "make" code.Vuex 2 (there 66) "h" ∷ []
+  -- a redeclared function, beside P: class APP inherit P redefine f end create make feature make do end f (x: P): P
+  -- do Result := x end end
+  pub redeclared_function :
+      body_faults
+      (class_p
+      ∷ (record (bare_class (there 7) (codes "app")) {
+        parents = record (parent_clause (plain (there 19) "p")) { redefines = name (there 30) "f" ∷ [] } ∷ [];
+        creators = creators no_clients (name (there 43) "make" ∷ []) ∷ [];
+        features =
+            features no_clients
+            (procedure (name (there 56) "make") (inss_from [])
+            ∷ routine_of (name (there 68) "f") (group (name (there 71) "x" ∷ []) (plain (there 74) "p") ∷ [])
+            (Some (plain (there 78) "p")) [] (assign (name (there 83) "result") (value (there 93) "x") ∷ [])
+            ∷ []) ∷ [];
+      }) ∷ [])
+      ≡ []

@@ -56,6 +56,19 @@ pub record VariableExamples : Type 0 where
       ∷ assign (name (at 54) "g") (value (at 59) "x")
       ∷ assign (name (at 61) "result") (value (at 71) "g") ∷ []) ∷ []))
       ≡ []
+  -- VBAR comes before VGCI: class B feature f (x: INTEGER) do create x end end
+  pub target_first :
+      alone
+      (declares (at 7) "b"
+      (routine_of (name (at 17) "f") (group (name (at 20) "x" ∷ []) (plain (at 23) "integer") ∷ []) None []
+      (make (at 35) None (name (at 42) "x") None [] ∷ []) ∷ []))
+      ≡ breach "b" "f" code.Vbar 1 (at 42) "x" ∷ []
+  -- a procedure: class B feature f do f := 1 end end
+  pub procedure :
+      alone
+      (declares (at 7) "b"
+      (procedure (name (at 17) "f") (inss_from (assign (name (at 22) "f") (int (at 27) 1) ∷ [])) ∷ []))
+      ≡ breach "b" "f" code.Vbar 1 (at 22) "f" ∷ []
 
 -- sources
 pub record SourceExamples : Type 0 where
@@ -105,3 +118,10 @@ pub record SourceExamples : Type 0 where
       (assign (name (at 49) "x") (text (at 54) "a")
       ∷ assign (name (at 58) "x") (void_value (at 63)) ∷ []) ∷ []))
       ≡ []
+  -- by the result of a routine, which is no target: class B feature f do g := "a" end g: INTEGER do end end
+  pub of_routine :
+      alone
+      (declares (at 7) "b"
+      (procedure (name (at 17) "f") (inss_from (assign (name (at 22) "g") (text (at 27) "a") ∷ []))
+      ∷ routine_of (name (at 35) "g") [] (Some (plain (at 38) "integer")) [] [] ∷ []))
+      ≡ breach "b" "f" code.Vbar 1 (at 22) "g" ∷ breach "b" "f" code.Vbar 2 (at 27) "g" ∷ []

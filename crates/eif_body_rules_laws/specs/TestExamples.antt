@@ -116,6 +116,31 @@ pub record TestLocalExamples : Type 0 where
       (test (at 41) None (Some (name (at 55) "z")) (value (at 50) "x")
       ∷ test (at 58) None (Some (name (at 72) "z")) (value (at 67) "y") ∷ [])) ∷ []) ∷ []))
       ≡ breach "b" "f" code.Vuot 2 (at 72) "z" ∷ []
+  -- VUOT.1 comes before VUOT.2: class B feature f (y: detachable ANY) do if attached y as z and then attached y as z
+  -- then end end end
+  pub usable_first :
+      alone
+      (declares (at 7) "b"
+      (routine_of (name (at 17) "f") (group (name (at 20) "y" ∷ []) (maybe (at 23) (at 34) "any") ∷ []) None []
+      (if_true
+      (branch
+      (operation (test (at 45) None (Some (name (at 59) "z")) (value (at 54) "y")) (at 61) op.AndThen
+      (test (at 70) None (Some (name (at 84) "z")) (value (at 79) "y"))) [] ∷ []) None ∷ []) ∷ []))
+      ≡ breach "b" "f" code.Vuot 1 (at 84) "z" ∷ []
+  -- target and arguments of a call are one expression: class B feature f (x: BOOLEAN) do h (attached x as z).k
+  -- (attached x as z) end h (b: BOOLEAN): B do create Result end k (b: BOOLEAN) do end end
+  pub target_and_argument :
+      alone
+      (declares (at 7) "b"
+      (routine_of (name (at 17) "f") (group (name (at 20) "x" ∷ []) (plain (at 23) "boolean") ∷ []) None []
+      (call
+      (dot (apply (at 35) "h" (test (at 38) None (Some (name (at 52) "z")) (value (at 47) "x") ∷ [])) (at 55)
+      "k" (test (at 58) None (Some (name (at 72) "z")) (value (at 67) "x") ∷ [])) ∷ [])
+      ∷ routine_of (name (at 79) "h") (group (name (at 82) "b" ∷ []) (plain (at 85) "boolean") ∷ [])
+      (Some (plain (at 95) "b")) [] (make (at 100) None (name (at 107) "result") None [] ∷ [])
+      ∷ routine_of (name (at 118) "k") (group (name (at 121) "b" ∷ []) (plain (at 124) "boolean") ∷ []) None []
+      [] ∷ []))
+      ≡ breach "b" "f" code.Vuot 2 (at 72) "z" ∷ []
 
 -- the written type
 pub record WrittenTypeExamples : Type 0 where

@@ -134,6 +134,15 @@ one_all_b = record class_b {
       ∷ [];
 }
 
+-- deferred class B inherit A export {ANY} no, no end end
+abbrev pub unknown_exports_b : ClassT
+unknown_exports_b = record class_b {
+  parents =
+      exporting (export (name (at 36) "any" ∷ []) (name (at 41) "no" ∷ name (at 45) "no" ∷ []) ∷ [])
+      (parent (at 26) "a")
+      ∷ [];
+}
+
 pub record ExportExamples : Type 0 where
   -- VLEL.1
   pub unknown_export : below_a unknown_export_b ≡ fault_of_b code.Vlel 1 41 "nope" ∷ []
@@ -145,6 +154,9 @@ pub record ExportExamples : Type 0 where
   -- VLEL.3
   pub repeated_all : below_a repeated_all_b ≡ fault_of_b code.Vlel 3 52 "all" ∷ []
   pub one_all : below_a one_all_b ≡ []
+  -- of several rules of one code the first counts
+  pub unknown_exports : below_a unknown_exports_b
+      ≡ fault_of_b code.Vlel 1 41 "no" ∷ fault_of_b code.Vlel 1 45 "no" ∷ []
 
 -- deferred class B inherit A undefine nope end end
 abbrev pub unknown_undefine_b : ClassT
@@ -188,6 +200,22 @@ attribute_twice_b = record class_b {
   parents = undefining (name (at 37) "x" ∷ name (at 40) "x" ∷ []) (parent (at 26) "a") ∷ [];
 }
 
+-- deferred class B inherit A rename x as h undefine h end end
+abbrev pub attribute_and_deferred_b : ClassT
+attribute_and_deferred_b = record class_b {
+  parents =
+      undefining (name (at 51) "h" ∷ []) (renaming (pair (at 35) "x" (at 40) "h" ∷ []) (parent (at 26) "a"))
+      ∷ [];
+}
+
+-- deferred class B inherit A rename f as h undefine h end end
+abbrev pub routine_and_deferred_b : ClassT
+routine_and_deferred_b = record class_b {
+  parents =
+      undefining (name (at 51) "h" ∷ []) (renaming (pair (at 35) "f" (at 40) "h" ∷ []) (parent (at 26) "a"))
+      ∷ [];
+}
+
 pub record UndefineExamples : Type 0 where
   -- VDUS.1
   pub unknown_undefine : below_a unknown_undefine_b ≡ fault_of_b code.Vdus 1 37 "nope" ∷ []
@@ -204,6 +232,10 @@ pub record UndefineExamples : Type 0 where
   pub one_entry : below_a one_entry_b ≡ fault_of_b code.Vdus 3 51 "f" ∷ []
   pub attribute_twice : below_a attribute_twice_b
       ≡ fault_of_b code.Vdus 3 37 "x" ∷ fault_of_b code.Vdus 2 40 "x" ∷ []
+  -- one entry is an attribute and one is deferred
+  pub attribute_and_deferred : below_a attribute_and_deferred_b ≡ fault_of_b code.Vdus 3 51 "h" ∷ []
+  -- one of two entries is deferred
+  pub routine_and_deferred : below_a routine_and_deferred_b ≡ fault_of_b code.Vdus 4 51 "h" ∷ []
 
 -- deferred class B inherit A redefine nope end end
 abbrev pub unknown_redefine_b : ClassT
@@ -266,6 +298,18 @@ one_select_b = record class_b {
       ∷ [];
 }
 
+-- deferred class B inherit A redefine no, no end end
+abbrev pub unknown_redefines_b : ClassT
+unknown_redefines_b = record class_b {
+  parents = redefining (name (at 37) "no" ∷ name (at 41) "no" ∷ []) (parent (at 26) "a") ∷ [];
+}
+
+-- deferred class B inherit A select no, no end end
+abbrev pub unknown_selects_b : ClassT
+unknown_selects_b = record class_b {
+  parents = selecting (name (at 35) "no" ∷ name (at 39) "no" ∷ []) (parent (at 26) "a") ∷ [];
+}
+
 pub record ListExamples : Type 0 where
   -- VDRS.1
   pub unknown_redefine : below_a unknown_redefine_b ≡ fault_of_b code.Vdrs 1 37 "nope" ∷ []
@@ -277,3 +321,8 @@ pub record ListExamples : Type 0 where
   -- VMSS.2
   pub repeated_select : below_a repeated_select_b ≡ fault_of_b code.Vmss 2 38 "f" ∷ []
   pub one_select : below_a one_select_b ≡ []
+  -- of several rules of one code the first counts
+  pub unknown_redefines : below_a unknown_redefines_b
+      ≡ fault_of_b code.Vdrs 1 37 "no" ∷ fault_of_b code.Vdrs 1 41 "no" ∷ []
+  pub unknown_selects : below_a unknown_selects_b
+      ≡ fault_of_b code.Vmss 1 35 "no" ∷ fault_of_b code.Vmss 1 39 "no" ∷ []

@@ -120,6 +120,12 @@ undefined_and_deferred_b = record (deferred_class (at 16) "b") {
   features = with_features (deferred_procedure (name (at 51) "f") ∷ []);
 }
 
+-- class B inherit A redefine f, f end end
+abbrev pub undeclared_twice_b : ClassT
+undeclared_twice_b = record class_b {
+  parents = redefining (name (at 28) "f" ∷ name (at 31) "f" ∷ []) (parent (at 17) "a") ∷ [];
+}
+
 pub record DeclarationExamples : Type 0 where
   -- VMFN.1
   pub repeated_declaration : phase (repeated_declaration_b ∷ []) ≡ fault_in_b "f" code.Vmfn 1 26 "f" ∷ []
@@ -140,6 +146,9 @@ pub record DeclarationExamples : Type 0 where
   pub deferred_redefinition : phase (deferred_redefinition_b ∷ class_a ∷ [])
       ≡ fault_in_b "f" code.Vdrs 4 51 "f" ∷ []
   pub undefined_and_deferred : phase (undefined_and_deferred_b ∷ class_a ∷ []) ≡ []
+  -- VDRS.3 at the first listing, and an earlier rule of the code at the second
+  pub undeclared_twice : phase (undeclared_twice_b ∷ class_a ∷ [])
+      ≡ fault_of_b code.Vdrs 2 31 "f" ∷ fault_of_b code.Vdrs 3 28 "f" ∷ []
 
 -- class B feature f: STRING = 1 end
 abbrev pub wrong_constant_b : ClassT
@@ -257,10 +266,21 @@ pub record LimitExamples : Type 0 where
 abbrev pub ancestor_broken_b : ClassT
 ancestor_broken_b = inherits (selecting (name (at 26) "nope" ∷ []) (parent (at 17) "n") ∷ []) class_b
 
+-- class M inherit N end
+abbrev pub class_m : ClassT
+class_m = inherits (parent (inline 2 17) "n" ∷ []) (class (inline 2 7) "m")
+
+-- class B inherit M select nope end end
+abbrev pub clean_parent_b : ClassT
+clean_parent_b = inherits (selecting (name (at 26) "nope" ∷ []) (parent (at 17) "m") ∷ []) class_b
+
 pub record JudgedExamples : Type 0 where
   -- N has a breach, so B, which has one too, is not judged
   pub ancestor_broken : phase (ancestor_broken_b ∷ class_n ∷ class_a ∷ [])
       ≡ fault_at class_n code.Vhrc 1 (inline 1 26) (codes "nope") ∷ []
   -- the same beside N alone
   pub ancestor_alone : phase (class_n ∷ class_a ∷ [])
+      ≡ fault_at class_n code.Vhrc 1 (inline 1 26) (codes "nope") ∷ []
+  -- M has none of its own, and B is not judged for N
+  pub clean_parent : phase (clean_parent_b ∷ class_m ∷ class_n ∷ class_a ∷ [])
       ≡ fault_at class_n code.Vhrc 1 (inline 1 26) (codes "nope") ∷ []

@@ -116,6 +116,13 @@ marks_differ_d = record class_d {
 abbrev pub undefined_above_d : ClassT
 undefined_above_d = inherits (parent (at 17) "x" ∷ parent (at 19) "m" ∷ []) class_d
 
+-- class D inherit M K [ARRAY [ANY]] end
+abbrev pub small_and_large_d : ClassT
+small_and_large_d = record class_d {
+  parents =
+      parent (at 17) "m" ∷ parent_clause (of (at 19) "k" (of (at 22) "array" (plain (at 29) "any"))) ∷ [];
+}
+
 pub record AncestorExamples : Type 0 where
   -- XANC.1
   pub differing : phase (differing_d ∷ class_l ∷ []) ≡ fault_of_d code.Xanc 1 25 "l" ∷ []
@@ -132,6 +139,9 @@ pub record AncestorExamples : Type 0 where
       ≡ fault_of_d code.Xlim 6 17 "l" ∷ []
   -- class D inherit K [ANY] end, by which it has 100
   pub largest : phase (below (of (at 17) "k" (plain (at 20) "any")) ∷ class_k ∷ class_l ∷ []) ≡ []
+  -- the first clause gives a small L and the second a large one, and XANC is not judged of them
+  pub small_and_large : phase (small_and_large_d ∷ class_m ∷ class_k ∷ class_l ∷ [])
+      ≡ fault_of_d code.Xlim 6 19 "l" ∷ []
 
 -- class D feature f: B [ANY] end
 abbrev pub wrong_actual_d : ClassT

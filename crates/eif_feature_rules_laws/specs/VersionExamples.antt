@@ -122,6 +122,16 @@ repeated_selection_d = record class_d {
   parents = selecting (name (at 26) "f" ∷ name (at 29) "f" ∷ []) (parent (at 17) "b") ∷ [];
 }
 
+-- class P1 inherit ANY rename out as out1 end end
+abbrev pub class_p1 : ClassT
+class_p1 = record (class (inline 1 7) "p1") {
+  parents = renaming (pair (inline 1 29) "out" (inline 1 36) "out1" ∷ []) (parent (inline 1 18) "any") ∷ [];
+}
+
+-- class D inherit P1 ANY end
+abbrev pub beside_any_d : ClassT
+beside_any_d = inherits (parent (at 17) "p1" ∷ parent (at 20) "any" ∷ []) class_d
+
 pub record SelectionExamples : Type 0 where
   -- VMRC.1
   pub undecided : phase (undecided_d ∷ class_b ∷ class_c ∷ class_z ∷ []) ≡ fault_of_d code.Vmrc 1 7 "f" ∷ []
@@ -138,6 +148,8 @@ pub record SelectionExamples : Type 0 where
   -- an earlier rule of the code counts
   pub repeated_selection : phase (repeated_selection_d ∷ class_b ∷ class_z ∷ [])
       ≡ fault_of_d code.Vmss 2 29 "f" ∷ fault_of_d code.Vmss 3 26 "f" ∷ []
+  -- a feature of ANY has two versions
+  pub beside_any : phase (beside_any_d ∷ class_p1 ∷ []) ≡ fault_of_d code.Vmrc 1 7 "out" ∷ []
 
 -- class D inherit K select f, g end K rename f as f2, g as g2 end end
 abbrev pub two_split_d : ClassT

@@ -7,7 +7,7 @@ use Rattle.eif_base.specs.declared.fault.Fault.{Fault}
 use Rattle.eif_base.specs.declared.place.Place.{Place}
 use Rattle.eif_base.specs.declared.root.Root.{Root}
 use Rattle.eif_tree.specs.declared.tree.Mark.TheVariants.{Plain}
-use Rattle.eif_tree.specs.Tree.{TypeT, type_at, no_types, and_type, no_inss, FormalT, ParentT, ClassT}
+use Rattle.eif_tree.specs.Tree.{TypeT, type_at, no_types, and_type, void_value, unqualified, creation, test, no_exs, and_ex, call, no_inss, and_ins, FormalT, ParentT, ClassT}
 use Rattle.eif_system.specs.TreeForms.{nowhere, inline, named, unmarked, detachable, bare_class, parent_clause, created_by, with_features, procedure, attribute_of}
 use Rattle.eif_system.specs.Universe.{universe, class_number}
 use Rattle.eif_system.specs.Graph.{IsProperAncestor, IsListOf}
@@ -70,6 +70,34 @@ arrays column (suc n) = with_actual column (codes "array") (arrays (column + 7) 
 abbrev pub fault_in_attribute : Code → ℕ → ℕ → List ℕ → Fault
 fault_in_attribute code case column about = fault_in class_b (codes "f") code case (at column) about
 
+-- class B feature f, g: NOPE end
+abbrev pub two_attributes_b : ClassT
+two_attributes_b = record class_b {
+  features = with_features (
+      record (attribute_of (named (at 17) (codes "f")) (plain 23 (codes "nope"))) {
+        names = named (at 17) (codes "f") ∷ named (at 20) (codes "g") ∷ [];
+      }
+      ∷ []);
+}
+
+-- class B feature f do print (create {NOPE}) end end
+abbrev pub creating_b : ClassT
+creating_b = record class_b {
+  features = with_features (
+      procedure (named (at 17) (codes "f"))
+      (and_ins
+      (call
+      (unqualified (at 22) (codes "print")
+      (and_ex (creation (at 29) (plain 37 (codes "nope")) None no_exs) no_exs))) no_inss)
+      ∷ []);
+}
+
+-- class B invariant attached {NOPE} Void end
+abbrev pub testing_b : ClassT
+testing_b = record class_b {
+  invariants = and_ex (test (at 19) (Some (plain 29 (codes "nope"))) None (void_value (at 35))) no_exs;
+}
+
 pub record TypeExamples : Type 0 where
   -- VTCT.1: class B feature f: NOPE end
   pub unknown_class : faults_alone (with_attribute (plain 20 (codes "nope")))
@@ -93,6 +121,13 @@ pub record TypeExamples : Type 0 where
   pub long_type : faults_alone (with_attribute (arrays 20 100))
       ≡ fault_in_attribute code.Xlim 4 20 (codes "array") ∷ []
   pub longest_type : faults_alone (with_attribute (arrays 20 99)) ≡ []
+  -- a fault in a declaration of two names is told of the first: class B feature f, g: NOPE end
+  pub two_names : faults_alone two_attributes_b ≡ fault_in_attribute code.Vtct 1 23 (codes "nope") ∷ []
+  -- in a body: class B feature f do print (create {NOPE}) end end
+  pub in_body : faults_alone creating_b ≡ fault_in class_b (codes "f") code.Vtct 1 (at 37) (codes "nope") ∷ []
+  -- in the class invariant: class B invariant attached {NOPE} Void end
+  pub in_invariant : faults_alone testing_b
+      ≡ fault_in class_b (codes "invariant") code.Vtct 1 (at 29) (codes "nope") ∷ []
 
 -- ---- formals
 
@@ -108,6 +143,12 @@ with_letters n = record (bare_class (at 7) (codes "z")) { formals = letters 10 9
 -- a fault in no feature of the class B
 abbrev pub fault_in_text : Code → ℕ → ℕ → List ℕ → Fault
 fault_in_text code case column about = fault_at class_b code case (at column) about
+
+-- class B [INTEGER] feature f: detachable INTEGER end
+abbrev pub hidden_integer_b : ClassT
+hidden_integer_b = record (with_formals (formal 10 (codes "integer") ∷ [])) {
+  features = with_features (attribute_of (named (at 27) (codes "f")) (detachable (at 30) (at 41) (codes "integer")) ∷ []);
+}
 
 pub record FormalExamples : Type 0 where
   -- VCFG.1: class B [ANY] end
@@ -132,6 +173,8 @@ pub record FormalExamples : Type 0 where
   -- XLIM.3: class Z [A, B, C, ..] end with 17 formals and with 16
   pub many : faults_alone (with_letters 17) ≡ fault_at (with_letters 17) code.Xlim 3 (at 7) (codes "z") ∷ []
   pub most : faults_alone (with_letters 16) ≡ []
+  -- a formal hides the class of its name, so XMRK is kept: class B [INTEGER] feature f: detachable INTEGER end
+  pub hidden_integer : faults_alone hidden_integer_b ≡ fault_in_text code.Vcfg 1 10 (codes "integer") ∷ []
 
 -- ---- parent clauses
 

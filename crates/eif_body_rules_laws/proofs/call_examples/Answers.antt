@@ -4,7 +4,7 @@ use Rattle.eif_system.specs.Lineage.{line_of}
 use Rattle.eif_body_rules.specs.CallRules.{wrong_arguments, call_of, name_rule, result_rule, call_rule, precursor_rule}
 use Rattle.eif_body_rules.specs.Conditions.{tested_name, compared_name}
 use Rattle.eif_body_rules.specs.CreationRules.{creation_faults, creation_rule, unfit_type}
-use Rattle.eif_body_rules.specs.InstructionFaults.{no_boolean, no_integer, create_rule}
+use Rattle.eif_body_rules.specs.InstructionFaults.{no_boolean, no_integer, create_instruction_rule}
 use Rattle.eif_body_rules.specs.KnownFacts.{without, learned}
 use Rattle.eif_body_rules.specs.LocalFlow.{unset_read, unset_name}
 use Rattle.eif_body_rules.specs.OperatorRules.{unary_rule, binary_rule}
@@ -15,7 +15,7 @@ use Rattle.eif_body_rules_laws.proofs.call_examples.Goals as goal
 
 pub returns-clause-precursor : goal.returns-clause-precursor
 unfolding kernel line_of wrong_arguments call_of name_rule result_rule call_rule precursor_rule tested_name
-    compared_name creation_faults creation_rule unfit_type no_boolean no_integer create_rule without learned
+    compared_name creation_faults creation_rule unfit_type no_boolean no_integer create_instruction_rule without learned
     unset_read unset_name unary_rule binary_rule meaning is_local is_testable target_type target_rule
     assignment_faults test_faults bound_local
 returns-clause-precursor c = record {
@@ -26,11 +26,15 @@ returns-clause-precursor c = record {
   twice = refl;
   in_invariant = refl;
   arguments_first = refl;
+  unknown_parent = refl;
+  two_parents = refl;
+  one_of_two = refl;
+  one_undefined = refl;
 }
 
 pub returns-clause-name : goal.returns-clause-name
 unfolding kernel line_of wrong_arguments call_of name_rule result_rule call_rule precursor_rule tested_name
-    compared_name creation_faults creation_rule unfit_type no_boolean no_integer create_rule without learned
+    compared_name creation_faults creation_rule unfit_type no_boolean no_integer create_instruction_rule without learned
     unset_read unset_name unary_rule binary_rule meaning is_local is_testable target_type target_rule
     assignment_faults test_faults bound_local
 returns-clause-name c = record {
@@ -47,7 +51,7 @@ returns-clause-name c = record {
 
 pub returns-clause-qualified : goal.returns-clause-qualified
 unfolding kernel line_of wrong_arguments call_of name_rule result_rule call_rule precursor_rule tested_name
-    compared_name creation_faults creation_rule unfit_type no_boolean no_integer create_rule without learned
+    compared_name creation_faults creation_rule unfit_type no_boolean no_integer create_instruction_rule without learned
     unset_read unset_name unary_rule binary_rule meaning is_local is_testable target_type target_rule
     assignment_faults test_faults bound_local
 returns-clause-qualified c = record {
@@ -57,13 +61,15 @@ returns-clause-qualified c = record {
   no_feature = refl;
   detachable_first = refl;
   not_available = refl;
-  to_heirs_alone = refl;
+  to_another_class_alone = refl;
   available = refl;
+  availability_first = refl;
+  available_to_heirs = refl;
 }
 
 pub returns-clause-argument : goal.returns-clause-argument
 unfolding kernel line_of wrong_arguments call_of name_rule result_rule call_rule precursor_rule tested_name
-    compared_name creation_faults creation_rule unfit_type no_boolean no_integer create_rule without learned
+    compared_name creation_faults creation_rule unfit_type no_boolean no_integer create_instruction_rule without learned
     unset_read unset_name unary_rule binary_rule meaning is_local is_testable target_type target_rule
     assignment_faults test_faults bound_local
 returns-clause-argument c = record {
@@ -79,7 +85,7 @@ returns-clause-argument c = record {
 
 pub returns-clause-used : goal.returns-clause-used
 unfolding kernel line_of wrong_arguments call_of name_rule result_rule call_rule precursor_rule tested_name
-    compared_name creation_faults creation_rule unfit_type no_boolean no_integer create_rule without learned
+    compared_name creation_faults creation_rule unfit_type no_boolean no_integer create_instruction_rule without learned
     unset_read unset_name unary_rule binary_rule meaning is_local is_testable target_type target_rule
     assignment_faults test_faults bound_local
 returns-clause-used c = record {
@@ -89,4 +95,7 @@ returns-clause-used c = record {
   entity_unused = refl;
   used = refl;
   arguments_first = refl;
+  argument_first = refl;
+  no_value_of_precursor = refl;
+  precursor_unused = refl;
 }

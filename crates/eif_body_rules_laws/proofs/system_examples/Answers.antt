@@ -4,7 +4,7 @@ use Rattle.eif_system.specs.Lineage.{line_of}
 use Rattle.eif_body_rules.specs.CallRules.{wrong_arguments, call_of, name_rule, result_rule, call_rule, precursor_rule}
 use Rattle.eif_body_rules.specs.Conditions.{tested_name, compared_name}
 use Rattle.eif_body_rules.specs.CreationRules.{creation_faults, creation_rule, unfit_type}
-use Rattle.eif_body_rules.specs.InstructionFaults.{no_boolean, no_integer, create_rule}
+use Rattle.eif_body_rules.specs.InstructionFaults.{no_boolean, no_integer, create_instruction_rule}
 use Rattle.eif_body_rules.specs.KnownFacts.{without, learned}
 use Rattle.eif_body_rules.specs.LocalFlow.{unset_read, unset_name}
 use Rattle.eif_body_rules.specs.OperatorRules.{unary_rule, binary_rule}
@@ -15,7 +15,7 @@ use Rattle.eif_body_rules_laws.proofs.system_examples.Goals as goal
 
 pub returns-clause-argument_test : goal.returns-clause-argument_test
 unfolding kernel line_of wrong_arguments call_of name_rule result_rule call_rule precursor_rule tested_name
-    compared_name creation_faults creation_rule unfit_type no_boolean no_integer create_rule without learned
+    compared_name creation_faults creation_rule unfit_type no_boolean no_integer create_instruction_rule without learned
     unset_read unset_name unary_rule binary_rule meaning is_local is_testable target_type target_rule
     assignment_faults test_faults bound_local
 returns-clause-argument_test c = record {
@@ -29,7 +29,7 @@ returns-clause-argument_test c = record {
 
 pub returns-clause-small_system : goal.returns-clause-small_system
 unfolding kernel line_of wrong_arguments call_of name_rule result_rule call_rule precursor_rule tested_name
-    compared_name creation_faults creation_rule unfit_type no_boolean no_integer create_rule without learned
+    compared_name creation_faults creation_rule unfit_type no_boolean no_integer create_instruction_rule without learned
     unset_read unset_name unary_rule binary_rule meaning is_local is_testable target_type target_rule
     assignment_faults test_faults bound_local
 returns-clause-small_system c = record {
@@ -37,4 +37,5 @@ returns-clause-small_system c = record {
   plain_formal = refl;
   constrained_formal = refl;
   hidden_features = refl;
+  redeclared_function = refl;
 }

@@ -21,6 +21,7 @@ returns-clause-exports c = record {
   two_exports = refl;
   repeated_all = refl;
   one_all = refl;
+  unknown_exports = refl;
 }
 
 pub returns-clause-undefines : goal.returns-clause-undefines
@@ -34,6 +35,8 @@ returns-clause-undefines c = record {
   constant_undefine = refl;
   one_entry = refl;
   attribute_twice = refl;
+  attribute_and_deferred = refl;
+  routine_and_deferred = refl;
 }
 
 pub returns-clause-lists : goal.returns-clause-lists
@@ -45,4 +48,6 @@ returns-clause-lists c = record {
   unknown_select = refl;
   repeated_select = refl;
   one_select = refl;
+  unknown_redefines = refl;
+  unknown_selects = refl;
 }

@@ -17,6 +17,7 @@ returns-clause-declarations c = record {
   deferred_again = refl;
   deferred_redefinition = refl;
   undefined_and_deferred = refl;
+  undeclared_twice = refl;
 }
 
 pub returns-clause-constants : goal.returns-clause-constants
@@ -58,4 +59,5 @@ unfolding kernel line_of
 returns-clause-judged c = record {
   ancestor_broken = refl;
   ancestor_alone = refl;
+  clean_parent = refl;
 }

@@ -13,6 +13,7 @@ returns-clause-ancestors c = record {
   undefined_above = refl;
   large = refl;
   largest = refl;
+  small_and_large = refl;
 }
 
 pub returns-clause-actuals : goal.returns-clause-actuals

@@ -13,6 +13,7 @@ returns-clause-selection c = record {
   needless_selection = refl;
   shared_selection = refl;
   repeated_selection = refl;
+  beside_any = refl;
 }
 
 pub returns-clause-replication : goal.returns-clause-replication

@@ -18,6 +18,9 @@ returns-clause-types c = record {
   marked_string = refl;
   long_type = refl;
   longest_type = refl;
+  two_names = refl;
+  in_body = refl;
+  in_invariant = refl;
 }
 
 pub returns-clause-formals : goal.returns-clause-formals
@@ -32,6 +35,7 @@ returns-clause-formals c = record {
   unknown_constraint = refl;
   many = refl;
   most = refl;
+  hidden_integer = refl;
 }
 
 pub returns-clause-parents : goal.returns-clause-parents
