@@ -4,6 +4,7 @@ use Rattle.std.specs.Prelude.{◌||◌, if◌then◌else◌}
 use Rattle.std.specs.Option.{option_map, option_or}
 use Rattle.std.specs.Str.{bytes_eq}
 use Rattle.std.proofs.lemmas.List.Folds.{list_any-append}
+use Rattle.eif_base.specs.Numbering.{is_among}
 use Rattle.eif_tree.specs.declared.tree.NameAt.{NameAt}
 use Rattle.eif_tree.specs.Members.{has_name, declared_names}
 use Rattle.eif_tree.specs.Tree.{DeclT, ClassT}
@@ -13,15 +14,17 @@ use Rattle.eif_classes.specs.Ancestry.{common, ways, derived}
 use Rattle.eif_classes.specs.Binding.{own_name, picked, candidates, bind}
 use Rattle.eif_classes.specs.Entries.{Declaration, Feature, leading}
 use Rattle.eif_classes.specs.Features.{declaration_of, declared_origin, feature_by, entries, has_feature, feature, origin}
-use Rattle.eif_classes.specs.Names.{name_set, is_among}
+use Rattle.eif_classes.specs.Names.{name_set}
 use Rattle.eif_classes.specs.Resolution.{own_formals}
 use Rattle.eif_classes.specs.Signatures.{declared_signature, signature, signed_entries}
-use Rattle.eif_sound.proofs.Tests.{or_left, number_same}
+use Rattle.eif_sound.proofs.Tests.{or_cases, or_left, or_right, turned, number_same}
 use Rattle.eif_sound.proofs.NameSets.{among_set, made_found, made_named}
 
-among_names : (ns : List NameAt) (n : List ℕ) → is_among (map (λ m. m.name) ns) n ≡ has_name ns n
-among_names [] n = refl
-among_names (m ∷ ns) n = ap (λ b. bytes_eq m.name n || b) (among_names ns n)
+among_names : (ns : List NameAt) (n : List ℕ) → has_name ns n ≡ true → is_among (map (λ m. m.name) ns) n ≡ true
+among_names [] n h = h
+among_names (m ∷ ns) n h =
+    or_cases _ (bytes_eq m.name n) (has_name ns n) h (λ q. or_left _ _ (turned n m.name q))
+    (λ q. or_right (bytes_eq n m.name) _ (among_names ns n q))
 
 module _ (d : ℕ) (c : ClassT) (ups : Ups) where
   -- the names that are declared and those that are inherited
@@ -47,8 +50,8 @@ module _ (d : ℕ) (c : ClassT) (ups : Ups) where
     among : is_among (name_set all_names) n ≡ true
     among =
         among_set all_names n
-        (list_any-append (λ m. bytes_eq m n) (map (λ m. m.name) (declared_names c)) (map (λ e. e.final) (entries ups))
-        ∙ or_left _ _ (among_names (declared_names c) n ∙ here))
+        (list_any-append (bytes_eq n) (map (λ m. m.name) (declared_names c)) (map (λ e. e.final) (entries ups))
+        ∙ or_left _ _ (among_names (declared_names c) n here))
 
     feature_is : feature (line d c ups) n ≡ Some (made n)
     feature_is = made_found (λ f. f.name) made named (name_set all_names) n among

@@ -6,9 +6,10 @@ use Rattle.std.specs.Str.{bytes_eq}
 use Rattle.std.specs.declared.cmp.Ordering.{Ordering}
 use Rattle.std.specs.declared.cmp.Ordering.TheVariants.{Less, Equal, Greater}
 use Rattle.std.proofs.lemmas.Map.Text.{is_eq-slice_cmp}
-use Rattle.eif_classes.specs.Names.{name_cmp, name_set, is_among}
+use Rattle.eif_base.specs.Numbering.{is_among}
+use Rattle.eif_classes.specs.Names.{name_cmp, name_set}
 use Rattle.eif_classes.specs.RisingLists.{placed, put}
-use Rattle.eif_sound.proofs.Tests.{or_cases, or_left, or_right, same_bytes}
+use Rattle.eif_sound.proofs.Tests.{or_cases, or_left, or_right, same_bytes, turned}
 
 -- names that compare as equal are the same
 same_name : (m k : List ℕ) → name_cmp m k ≡ Equal → m ≡ k
@@ -16,19 +17,19 @@ same_name m k e = same_bytes m k (sym (is_eq-slice_cmp m k) ∙ ap is_eq e)
 
 -- what was put into a set is in it, and what was in it stays
 among_placed : (o : Ordering) (m k : List ℕ) (ns rest : List (List ℕ)) (n : List ℕ) → name_cmp m k ≡ o
-    → ((bytes_eq m n || is_among ns n) ≡ true → is_among rest n ≡ true)
-    → (bytes_eq m n || is_among (k ∷ ns) n) ≡ true → is_among (placed o m k ns rest) n ≡ true
+    → ((bytes_eq n m || is_among ns n) ≡ true → is_among rest n ≡ true)
+    → (bytes_eq n m || is_among (k ∷ ns) n) ≡ true → is_among (placed o m k ns rest) n ≡ true
 among_placed Less m k ns rest n e later h = h
 among_placed Equal m k ns rest n e later h =
-    or_cases _ (bytes_eq m n) (is_among (k ∷ ns) n) h
-    (λ q. or_left _ _ (subst (λ y. bytes_eq y n ≡ true) (same_name m k e) q)) (λ q. q)
+    or_cases _ (bytes_eq n m) (is_among (k ∷ ns) n) h
+    (λ q. or_left _ _ (subst (λ y. bytes_eq n y ≡ true) (same_name m k e) q)) (λ q. q)
 among_placed Greater m k ns rest n e later h =
-    or_cases _ (bytes_eq m n) (is_among (k ∷ ns) n) h (λ q. or_right (bytes_eq k n) _ (later (or_left _ _ q)))
-    (λ q. or_cases _ (bytes_eq k n) (is_among ns n) q (or_left _ _)
-    (λ r. or_right (bytes_eq k n) _ (later (or_right (bytes_eq m n) _ r))))
+    or_cases _ (bytes_eq n m) (is_among (k ∷ ns) n) h (λ q. or_right (bytes_eq n k) _ (later (or_left _ _ q)))
+    (λ q. or_cases _ (bytes_eq n k) (is_among ns n) q (or_left _ _)
+    (λ r. or_right (bytes_eq n k) _ (later (or_right (bytes_eq n m) _ r))))
 
 among_put : (m : List ℕ) (ns : List (List ℕ)) (n : List ℕ)
-    → (bytes_eq m n || is_among ns n) ≡ true → is_among (put name_cmp m ns) n ≡ true
+    → (bytes_eq n m || is_among ns n) ≡ true → is_among (put name_cmp m ns) n ≡ true
 among_put m [] n h = h
 among_put m (k ∷ ns) n h = among_placed (name_cmp m k) m k ns (put name_cmp m ns) n refl (among_put m ns n) h
 
@@ -37,7 +38,7 @@ pub among_set : (ns : List (List ℕ)) (n : List ℕ) → is_among ns n ≡ true
 among_set [] n h = h
 among_set (m ∷ ns) n h =
     among_put m (name_set ns) n
-    (or_cases _ (bytes_eq m n) (is_among ns n) h (or_left _ _) (λ q. or_right (bytes_eq m n) _ (among_set ns n q)))
+    (or_cases _ (bytes_eq n m) (is_among ns n) h (or_left _ _) (λ q. or_right (bytes_eq n m) _ (among_set ns n q)))
 
 -- ---- what is made of each of some names
 
@@ -54,7 +55,9 @@ module _ {X : Type 0} (name_of : X → List ℕ) (make : List ℕ → X) (named 
   made_found (m ∷ ns) n h =
       let rest = find (λ x. bytes_eq (name_of x) n) (map make ns) in
       subst (λ y. cond (bytes_eq y n) (Some (make m)) rest ≡ Some (make n)) (sym (named m))
-      (made_or (bytes_eq m n) (is_among ns n) m n rest refl h (made_found ns n))
+      (made_or (bytes_eq m n) (is_among ns n) m n rest refl
+      (or_cases _ (bytes_eq n m) (is_among ns n) h (λ q. or_left _ _ (turned m n q)) (or_right (bytes_eq m n) _))
+      (made_found ns n))
 
   -- the names are those of what is made
   pub made_named : (ns : List (List ℕ)) → map name_of (map make ns) ≡ ns

@@ -39,6 +39,10 @@ same_bytes a b = (bytes_eq-Decides a b).0
 pub bytes_same : (a : List ℕ) → bytes_eq a a ≡ true
 bytes_same a = (bytes_eq-Decides a a).1 refl
 
+-- equal the other way round
+pub turned : (a b : List ℕ) → bytes_eq b a ≡ true → bytes_eq a b ≡ true
+turned a b e = (bytes_eq-Decides a b).1 (sym (same_bytes b a e))
+
 pub number_same : (n : ℕ) → (n == n) ≡ true
 number_same n = eq-eqb n n refl
 
