@@ -1,4 +1,6 @@
 pub mod SelfCallExamples
 pub mod CreationTexts
 pub mod CreatorExamples
+pub mod GenericExamples
 pub mod NameExamples
+pub mod OrderExamples

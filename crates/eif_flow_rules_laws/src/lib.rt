@@ -3,7 +3,9 @@
 
 ghost use Rattle.eif_flow_rules.specs.MetNeeds.{NeedsAreMet};
 ghost use Rattle.eif_flow_rules.specs.SummaryLaws.{FarEnough};
-ghost use Rattle.eif_flow_rules_laws.specs.CreatorExamples.{BranchExamples, CurrentExamples, LoopExamples, InheritedExamples};
+ghost use Rattle.eif_flow_rules_laws.specs.CreatorExamples.{BranchExamples, CurrentExamples, LoopExamples, SeveralExamples, InheritedExamples};
+ghost use Rattle.eif_flow_rules_laws.specs.GenericExamples.{GenericExamples};
+ghost use Rattle.eif_flow_rules_laws.specs.OrderExamples.{OrderExamples, AssertionExamples};
 ghost use Rattle.eif_flow_rules_laws.specs.SelfCallExamples.{ParentExamples, CircleExamples, OperandExamples};
 ghost use Rattle.eif_flow_rules_laws.specs.NameExamples.{HeirExamples, HiddenExamples};
 
@@ -12,7 +14,15 @@ pub fn creator_examples()
     ensures branches { BranchExamples }
     ensures current { CurrentExamples }
     ensures loops { LoopExamples }
+    ensures several { SeveralExamples }
     ensures inherited { InheritedExamples }
+    ensures generic { GenericExamples }
+{}
+
+/// In which order what a creator does counts, and that assertions do not.
+pub fn order_examples()
+    ensures order { OrderExamples }
+    ensures assertions { AssertionExamples }
 {}
 
 /// What calls on the same object need and set: bodies of a parent, bodies that lead to themselves,

@@ -6,7 +6,7 @@ use Rattle.eif_tree.specs.Tree.{DeclT}
 use Rattle.eif_classes.specs.Types.{Actuals, put_in_all}
 use Rattle.eif_meaning.specs.Values.{Value, Object, Store, no_feature, wrong}
 use Rattle.eif_meaning.specs.System.{System}
-use Rattle.eif_meaning.specs.Frames.{Body, Runner, entity, entity_by, type_in, locals_of, is_routine, takes}
+use Rattle.eif_meaning.specs.Frames.{Body, Runner, entity, entity_by, type_in, is_routine, takes}
 use Rattle.eif_meaning.specs.Calls.{body_on, run_body, run_declaration}
 use Rattle.eif_sound.proofs.Heaps.{Grow, IsOf}
 use Rattle.eif_sound.proofs.Keeps.{Safe}
