@@ -2,6 +2,7 @@
 use Rattle.std.proofs.Common.{◌≡◌, ℕ, ◌==◌, ◌&&◌, true, List, [], length, flat_map, Some, None, sym, ap, ap₂, subst, ◌∙◌}
 use Rattle.std.specs.Prelude.{if◌then◌else◌}
 use Rattle.std.specs.Option.{option_and_then, option_map}
+use Rattle.eif_tree.specs.Members.{locals_of}
 use Rattle.eif_tree.specs.Tree.{DeclT}
 use Rattle.eif_classes.specs.Types.{Actuals, put_in_all}
 use Rattle.eif_meaning.specs.Values.{Value, Object, Store, no_feature, wrong}
