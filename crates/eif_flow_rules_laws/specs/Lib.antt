@@ -4,3 +4,4 @@ pub mod CreatorExamples
 pub mod GenericExamples
 pub mod NameExamples
 pub mod OrderExamples
+pub mod TestLocalsAgree

@@ -8,6 +8,7 @@ ghost use Rattle.eif_flow_rules_laws.specs.GenericExamples.{GenericExamples};
 ghost use Rattle.eif_flow_rules_laws.specs.OrderExamples.{OrderExamples, AssertionExamples};
 ghost use Rattle.eif_flow_rules_laws.specs.SelfCallExamples.{ParentExamples, CircleExamples, OperandExamples};
 ghost use Rattle.eif_flow_rules_laws.specs.NameExamples.{HeirExamples, HiddenExamples};
+ghost use Rattle.eif_flow_rules_laws.specs.TestLocalsAgree.{TestLocalsAgree};
 
 /// What a creator must set before it ends, and before it hands out `Current`.
 pub fn creator_examples()
@@ -49,4 +50,10 @@ pub fn summaries_by_paths()
 /// what is said of it. So does a creator of which nothing is told.
 pub fn needs_are_met()
     ensures { NeedsAreMet }
+{}
+
+/// The test locals that a flow takes as usable are those of which the facts of an expression tell, by
+/// its tree.
+pub fn test_locals_agree()
+    ensures { TestLocalsAgree }
 {}
