@@ -61,6 +61,7 @@ leaves_unset due of c creator t =
 abbrev pub own_text_faults : List (List ℕ) → (Declaration → Summary) → ClassT → NameAt → Flow → List Fault
 own_text_faults due of c creator t = needs_unset due of c creator t ++ leaves_unset due of c creator t
 
+-- by the text of the body that the class has for its name
 abbrev pub creator_faults : List ClassT → Line → ClassT → NameAt → List Fault
 creator_faults u l c creator =
     option_map_or (λ x. own_text_faults (due_fields u l) (summary u l) c creator (version_flow u l x))
@@ -68,14 +69,16 @@ creator_faults u l c creator =
 
 -- ---- a class
 
--- each where the class names it; without a creators part the one creator stands at the class's name
+-- the names of its creators parts; without one the one creator stands at the class's name
 abbrev pub named_creators : Option (List ℕ) → Place → List CreatorsT → List NameAt
 named_creators default p [] = map (named p) (option_to_list default)
 named_creators default p (part ∷ parts) = flat_map (λ part. part.names) (part ∷ parts)
 
+-- each creator where it is named
 abbrev pub creator_places : Line → ClassT → List NameAt
 creator_places l c = named_creators (default_creator l) c.place c.creators
 
+-- of each creator where it is named; a class that is marked deferred is not judged
 abbrev pub class_faults : List ClassT → Line → ClassT → List Fault
 class_faults u l c = if c.is_deferred then [] else flat_map (creator_faults u l c) (creator_places l c)
 
@@ -85,6 +88,7 @@ creation_faults u d c = class_faults u (line_of u d) c
 
 -- ---- the given classes
 
+-- a creator of one of these breaks a rule
 abbrev pub CreationBroken : List ClassT → Fault → Type 0
 CreationBroken given f =
     SomeOf given (λ i c f. In (creation_faults (universe given) (kernel_count + i) c) f) f

@@ -8,6 +8,7 @@ use Rattle.eif_flow_rules.specs.FieldSets.{FieldSet, no_fields, only, common}
 use Rattle.eif_flow_rules.specs.FlowTrees.{Flow, idle, reads, shows, sets, calls, in_turn, aside, one_of}
 use Rattle.eif_flow_rules.specs.NeedsAndSets.{Summary, set_after, summary_by}
 
+-- each field of the one set is in the other
 abbrev pub Within : FieldSet → FieldSet → Type 0
 Within s t = (n : List ℕ) → s n ≡ true → t n ≡ true
 
@@ -37,6 +38,7 @@ CreatorLaw =
     (due : List (List ℕ)) (of : Declaration → Summary) (t : Flow) → unset_needs due of t no_fields ≡ []
     → IsMet (is_among due) of t no_fields
 
+-- of all bodies that call each other alone, and of every creator
 abbrev pub NeedsAreMet : Type 0
 NeedsAreMet =
     ((all : FieldSet) (flow : Declaration → Flow) (bodies : List Declaration) → IsClosed flow bodies

@@ -6,6 +6,7 @@ use Rattle.eif_flow_rules.specs.CallPaths.{leads_within}
 use Rattle.eif_flow_rules.specs.FieldSets.{FieldSet, no_fields, only, union, common, without}
 use Rattle.eif_flow_rules.specs.FlowTrees.{Flow, idle, reads, shows, sets, calls, in_turn, aside, one_of}
 
+-- what is needed, and what is surely set
 pub record Summary : Type 0 where
   pub needs : FieldSet
   pub sets : FieldSet
@@ -21,7 +22,8 @@ set_after all of (in_turn a b) s = set_after all of b (set_after all of a s)
 set_after all of (aside a) s = s
 set_after all of (one_of a b) s = common (set_after all of a s) (set_after all of b s)
 
--- which of all fields some node needs before they are surely set: a read its field, `Current` each
+-- which of all fields some node needs before they are surely set: a read its field, `Current` all, a call what the
+-- body needs
 abbrev pub needed_in : FieldSet → (Declaration → Summary) → Flow → FieldSet → FieldSet
 needed_in all of idle s = no_fields
 needed_in all of (reads p n) s = without (common all (only n)) s
@@ -32,6 +34,7 @@ needed_in all of (in_turn a b) s = union (needed_in all of a s) (needed_in all o
 needed_in all of (aside a) s = needed_in all of a s
 needed_in all of (one_of a b) s = union (needed_in all of a s) (needed_in all of b s)
 
+-- of a text with nothing set before it
 abbrev pub summary_of : FieldSet → (Declaration → Summary) → Flow → Summary
 summary_of all of t = record { needs = needed_in all of t no_fields; sets = set_after all of t no_fields }
 

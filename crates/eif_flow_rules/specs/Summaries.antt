@@ -13,7 +13,7 @@ use Rattle.eif_flow_rules.specs.CallPaths.{leads_within}
 use Rattle.eif_flow_rules.specs.NeedsAndSets.{Summary, summary_by}
 use Rattle.eif_flow_rules.specs.VersionFlows.{version_flow, declared_above}
 
--- the field has no value at the start
+-- the field is due: it has no value at the start
 abbrev pub is_due : List ClassT → Line → List ℕ → Bool
 is_due u l n =
     option_map_or (λ t. not (is_self_initialising t)) (option_and_then (λ s. s.result) (signature u l n)) false

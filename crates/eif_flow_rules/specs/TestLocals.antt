@@ -5,6 +5,7 @@ use Rattle.eif_tree.specs.declared.tree.Op.{Op}
 use Rattle.eif_tree.specs.declared.tree.Op.TheVariants.{Not, And, AndThen, Or, OrElse, Implies}
 use Rattle.eif_tree.specs.Tree.{Ex, test, paren, unary, binary}
 
+-- the local of a test, if it has one
 abbrev pub local_name : Option NameAt → List (List ℕ)
 local_name None = []
 local_name (Some n) = n.name ∷ []

@@ -3,8 +3,8 @@ use Rattle.std.specs.Prelude.{ℕ, false, if◌then◌else◌, List, [], ◌∷�
 use Rattle.std.specs.List.{cons_option, filter_map}
 use Rattle.std.specs.Option.{option_and_then, option_map, option_map_or}
 use Rattle.eif_base.specs.declared.place.Place.{Place}
-use Rattle.eif_tree.specs.Members.{declared_names, body_of}
-use Rattle.eif_tree.specs.Tree.{GroupT, KindT, routine, DeclT, ClassT}
+use Rattle.eif_tree.specs.Members.{declared_names, body_of, locals_of}
+use Rattle.eif_tree.specs.Tree.{GroupT, DeclT, ClassT}
 use Rattle.eif_classes.specs.Binding.{bind}
 use Rattle.eif_classes.specs.Descent.{class_of, above}
 use Rattle.eif_classes.specs.Entries.{Declaration, Origin, declared_as, entries_of}
@@ -20,13 +20,9 @@ use Rattle.eif_flow_rules.specs.FlowTrees.{Flow, idle, reads, sets, calls}
 abbrev pub group_names : List GroupT → List (List ℕ)
 group_names groups = flat_map (λ g. map (λ n. n.name) g.names) groups
 
-abbrev pub locals_in : KindT → List GroupT
-locals_in (routine groups body) = groups
-locals_in _ = []
-
 -- the names in the body of a declaration that aren't features: `Result`, arguments and locals
 abbrev pub entity_names : DeclT → List (List ℕ)
-entity_names x = codes "result" ∷ group_names x.arguments ++ group_names (locals_in x.kind)
+entity_names x = codes "result" ∷ group_names x.arguments ++ group_names (locals_of x.kind)
 
 -- a version that isn't a field has a body; that of a constant or a built-in routine does nothing
 abbrev pub body_in : Origin → Option Declaration
@@ -61,6 +57,7 @@ meanings_in u l x = record {
 
 -- ---- bodies
 
+-- what a body does to the fields of an object of the class
 abbrev pub version_flow : List ClassT → Line → Declaration → Flow
 version_flow u l x = compound_flow (meanings_in u l x) (entity_names x.tree) (body_of x.tree.kind)
 

@@ -1,4 +1,5 @@
 pub mod Counting
 pub mod Leading
 pub mod Meeting
+pub mod TestLocals
 pub mod Unfolding

@@ -1,7 +1,7 @@
 -- Class texts in a few words. A node of which a fault is told has its place, as have a class's name and its creators;
 -- all else stands nowhere.
 use Prim.Native.String.{String}
-use Rattle.std.specs.Prelude.{ℕ, ◌+◌, Bool, List, [], ◌∷◌, Some, None, codes, slice_get}
+use Rattle.std.specs.Prelude.{ℕ, ◌+◌, Bool, List, [], ◌∷◌, ◌++◌, Some, None, codes, slice_get}
 use Rattle.std.specs.Option.{option_map_or}
 use Rattle.eif_base.specs.declared.code.Code.TheVariants as code
 use Rattle.eif_base.specs.declared.fault.Fault.{Fault}
@@ -9,7 +9,7 @@ use Rattle.eif_base.specs.declared.place.Place.{Place}
 use Rattle.eif_tree.specs.declared.tree.Literal.TheVariants as lit
 use Rattle.eif_tree.specs.declared.tree.NameAt.{NameAt}
 use Rattle.eif_tree.specs.declared.tree.Op.{Op}
-use Rattle.eif_tree.specs.Tree.{TypeT, Ex, literal, current_value, unqualified, precursor, qualified, test, binary, no_exs, Ins, assign, call, create, choose, loop, routine, DeclT, ParentT, ClassT}
+use Rattle.eif_tree.specs.Tree.{TypeT, Ex, literal, current_value, unqualified, precursor, qualified, test, unary, binary, no_exs, Ins, assign, call, create, choose, loop, routine, DeclT, ParentT, ClassT}
 use Rattle.eif_tree.specs.View.{exs_from, inss_from, branches_from, otherwise_from}
 use Rattle.eif_system.specs.Kernel.{kernel_count}
 use Rattle.eif_system.specs.TreeForms.{nowhere, inline, named, unmarked, detachable, bare_class, parent_clause, created_by, with_features, declared, attribute_of, argument}
@@ -62,6 +62,10 @@ dot e s args = qualified nowhere e (name s) (exs_from args)
 abbrev pub is_there : String → Ex → Ex
 is_there s e = test nowhere None (Some (name s)) e
 
+-- not e
+abbrev pub one : Op → Ex → Ex
+one o e = unary nowhere o e
+
 -- l and r
 abbrev pub two : Op → Ex → Ex → Ex
 two o l r = binary nowhere o nowhere l r
@@ -84,9 +88,17 @@ perform e = call e
 abbrev pub perform_precursor : Place → Ins
 perform_precursor p = call (precursor p None no_exs)
 
+-- Precursor {P}
+abbrev pub perform_version : String → Ins
+perform_version s = call (precursor nowhere (Some (name s)) no_exs)
+
+-- f (e)
+abbrev pub perform_with : String → Ex → Ins
+perform_with s e = call (unqualified nowhere (codes s) (exs_from (e ∷ [])))
+
 -- print (e)
 abbrev pub show : Ex → Ins
-show e = call (unqualified nowhere (codes "print") (exs_from (e ∷ [])))
+show e = perform_with "print" e
 
 -- create x.f
 abbrev pub make_by : String → String → Ins
@@ -127,6 +139,10 @@ routine_of s is = declared (name s) [] None (routine [] (inss_from is))
 abbrev pub with_local : String → String → TypeT → List Ins → DeclT
 with_local s x t is = declared (name s) [] None (routine (argument (name x) t ∷ []) (inss_from is))
 
+-- n (x: T) do .. end
+abbrev pub with_argument : String → String → TypeT → List Ins → DeclT
+with_argument s x t is = declared (name s) (argument (name x) t ∷ []) None (routine [] (inss_from is))
+
 -- n: T do .. end
 abbrev pub function_of : String → String → List Ins → DeclT
 function_of s t is = declared (name s) [] (Some (plain t)) (routine [] (inss_from is))
@@ -148,13 +164,13 @@ abbrev pub parent : String → ParentT
 parent s = parent_clause (plain s)
 
 abbrev pub redefining : String → ParentT → ParentT
-redefining s p = record p { redefines = name s ∷ [] }
+redefining s p = record p { redefines = p.redefines ++ name s ∷ [] }
 
 abbrev pub renaming : String → String → ParentT → ParentT
-renaming old new p = record p { renames = record { old_name = name old; new_name = name new } ∷ [] }
+renaming old new p = record p { renames = p.renames ++ record { old_name = name old; new_name = name new } ∷ [] }
 
 abbrev pub selecting : String → ParentT → ParentT
-selecting s p = record p { selects = name s ∷ [] }
+selecting s p = record p { selects = p.selects ++ name s ∷ [] }
 
 -- class APP create make feature .. end
 abbrev pub app : List DeclT → ClassT

@@ -4,7 +4,7 @@ use Rattle.eif_base.specs.declared.code.Code.TheVariants as code
 use Rattle.eif_base.specs.declared.fault.Fault.{Fault}
 use Rattle.eif_base.specs.declared.place.Place.{Place}
 use Rattle.eif_tree.specs.Tree.{Ins, ClassT}
-use Rattle.eif_system.specs.TreeForms.{nowhere, spot, attribute_of}
+use Rattle.eif_system.specs.TreeForms.{nowhere, spot, named, created_by, attribute_of}
 use Rattle.eif_rules.specs.FaultForms.{fault_in}
 use Rattle.eif_flow_rules_laws.specs.CreationTexts.{at, name, plain, maybe, truth, me, the, any, dot, fill, perform, show, make, when, when_else, when_elseif, until, field, routine_of, with_local, function_of, class, creating, inherits, parent, renaming, selecting, app, faults_of, faults_alone, needs, leaves}
 
@@ -104,6 +104,31 @@ pub record LoopExamples : Type 0 where
   -- from until fill loop print (name) end: what the exit sets counts nowhere
   pub set_by_exit : faults_alone (with_loop (until [] (any "fill") (show (the (at 80) "name") ∷ [])))
       ≡ needs (with_loop (make "name")) (at 80) "name" ∷ leaves (with_loop (make "name")) (at 18) "name" ∷ []
+
+-- ---- several creators, and one that is not named
+
+-- class APP create make, other feature name: STRING title: STRING make do print (Current) name := "a" title := "a" end
+-- other do name := "a" end end
+abbrev pub two_creators : ClassT
+two_creators =
+    record (class (at 7) "app" (field "name" ∷ field "title"
+    ∷ routine_of "make" (show (me (at 80)) ∷ fill "name" ∷ fill "title" ∷ [])
+    ∷ routine_of "other" (fill "name" ∷ []) ∷ []))
+    { creators = created_by (named (at 18) (codes "make") ∷ named (at 24) (codes "other") ∷ []) }
+
+-- class APP inherit ANY rename default_create as start end feature name: STRING end
+abbrev pub renamed_default : ClassT
+renamed_default =
+    inherits (renaming "default_create" "start" (parent "any") ∷ []) (class (at 7) "app" (field "name" ∷ []))
+
+pub record SeveralExamples : Type 0 where
+  -- each by its own text, and its faults one after the other
+  pub each_alone : faults_alone two_creators
+      ≡ needs two_creators (at 80) "name" ∷ needs two_creators (at 80) "title"
+      ∷ fault_in two_creators (codes "other") code.Vevi 4 (at 24) (codes "title") ∷ []
+  -- without a creators part the one creator has the name that the class gives ANY's `default_create`
+  pub default_by_its_name : faults_alone renamed_default
+      ≡ fault_in renamed_default (codes "start") code.Vevi 4 (at 7) (codes "name") ∷ []
 
 -- ---- inherited creators
 

@@ -1,9 +1,10 @@
 -- Which names are features: a test local that may be used, an argument and a local hide one of the class, and what is
 -- none in the class of a body is none in its heirs. Above each class stands its text, in one line.
-use Rattle.std.specs.Prelude.{◌≡◌, true, [], ◌∷◌}
-use Rattle.eif_tree.specs.Tree.{ClassT}
+use Rattle.std.specs.Prelude.{◌≡◌, ℕ, true, [], ◌∷◌}
+use Rattle.eif_tree.specs.declared.tree.Op.TheVariants.{Not, And, AndThen, OrElse, Implies}
+use Rattle.eif_tree.specs.Tree.{Ex, Ins, ClassT}
 use Rattle.eif_system.specs.TreeForms.{nowhere, inline, attribute_of}
-use Rattle.eif_flow_rules_laws.specs.CreationTexts.{at, name, plain, maybe, the, any, dot, is_there, fill, perform, show, make_by, when, when_else, field, routine_of, with_local, function_of, class, creating, inherits, parent, app, faults_of, faults_alone, needs, leaves}
+use Rattle.eif_flow_rules_laws.specs.CreationTexts.{at, name, plain, maybe, text, the, any, dot, is_there, one, two, fill, perform, show, make, make_by, when, when_else, until, field, routine_of, with_local, function_of, class, creating, inherits, parent, app, faults_of, faults_alone, needs, leaves}
 
 -- ---- names of the parent's text alone
 
@@ -58,7 +59,38 @@ with_test_y =
     when_else (is_there "y" (any "x")) (show (any "y") ∷ []) (show (the (at 122) "y") ∷ [])
     ∷ fill "y" ∷ []) ∷ [])
 
+-- class APP create make feature y: STRING make do .. y := "a" end end
+abbrev pub then_y : Ins → ClassT
+then_y i = app (field "y" ∷ routine_of "make" (i ∷ fill "y" ∷ []) ∷ [])
+
+-- attached "a" as y
+abbrev pub is_y : Ex
+is_y = is_there "y" text
+
+-- y.is_empty, which asks the field at that column
+abbrev pub empty_y : ℕ → Ex
+empty_y column = dot (the (at column) "y") "is_empty" []
+
+-- if .. then end
+abbrev pub if_it : Ex → Ins
+if_it e = when e []
+
 pub record HiddenExamples : Type 0 where
   pub by_a_local : faults_alone with_local_z ≡ leaves with_local_z (at 18) "z" ∷ []
   -- only where the test holds
   pub by_a_test_local : faults_alone with_test_y ≡ needs with_test_y (at 122) "y" ∷ []
+  -- if attached "a" as y and then y.is_empty then end
+  pub by_and_then : faults_alone (then_y (if_it (two AndThen is_y (empty_y 79)))) ≡ []
+  -- if attached "a" as y implies y.is_empty then end
+  pub by_implies : faults_alone (then_y (if_it (two Implies is_y (empty_y 78)))) ≡ []
+  -- if not attached "a" as y or else y.is_empty then end
+  pub by_or_else : faults_alone (then_y (if_it (two OrElse (one Not is_y) (empty_y 82)))) ≡ []
+  -- if attached "a" as y and y.is_empty then end: the right operand runs whatever the left one gives
+  pub not_by_and : faults_alone (then_y (if_it (two And is_y (empty_y 74))))
+      ≡ needs (then_y (make "y")) (at 74) "y" ∷ []
+  -- if not attached "a" as y then print (y) else print (y) end: in the `else` part alone
+  pub by_not :
+      faults_alone (then_y (when_else (one Not is_y) (show (the (at 86) "y") ∷ []) (show (the (at 101) "y") ∷ [])))
+      ≡ needs (then_y (make "y")) (at 86) "y" ∷ []
+  -- from until not attached "a" as y loop print (y) end: in the body of a loop
+  pub by_an_exit : faults_alone (then_y (until [] (one Not is_y) (show (the (at 94) "y") ∷ []))) ≡ []

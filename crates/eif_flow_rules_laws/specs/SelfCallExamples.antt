@@ -4,14 +4,14 @@ use Prim.Native.String.{String}
 use Rattle.std.specs.Prelude.{◌≡◌, ℕ, true, false, List, [], ◌∷◌, map, Option, Some, None, codes}
 use Rattle.std.specs.Option.{option_map}
 use Rattle.eif_tree.specs.declared.tree.Literal.TheVariants as lit
-use Rattle.eif_tree.specs.declared.tree.Op.TheVariants.{And, AndThen, Implies}
+use Rattle.eif_tree.specs.declared.tree.Op.TheVariants.{And, AndThen, OrElse, Implies}
 use Rattle.eif_tree.specs.Tree.{paren, Ins, constant, ClassT}
 use Rattle.eif_classes.specs.Entries.{Declaration}
 use Rattle.eif_system.specs.Lineage.{Line, line_of}
 use Rattle.eif_system.specs.TreeForms.{nowhere, inline, declared}
 use Rattle.eif_system.specs.Universe.{universe}
 use Rattle.eif_flow_rules.specs.FollowedBodies.{body_named, needs_told, sets_told}
-use Rattle.eif_flow_rules_laws.specs.CreationTexts.{at, name, plain, truth, the, any, dot, two, fill, perform, perform_precursor, show, when, field, routine_of, function_of, class, creating, inherits, parent, redefining, renaming, app, faults_of, faults_alone, needs, leaves}
+use Rattle.eif_flow_rules_laws.specs.CreationTexts.{at, name, plain, truth, the, any, dot, two, fill, perform, perform_precursor, perform_version, show, when, field, routine_of, function_of, class, creating, inherits, parent, redefining, renaming, app, faults_of, faults_alone, needs, leaves}
 use Rattle.eif_flow_rules_laws.specs.CreatorExamples.{person}
 
 -- what is told of the body of a name of the class; the first class given has the number 6
@@ -56,6 +56,29 @@ with_precursor is =
     creating (at 51) (inherits (redefining "make" (parent "person") ∷ [])
     (class (at 7) "app" (field "title" ∷ routine_of "make" is ∷ [])))
 
+-- class P create make feature f: STRING do Result := "a" end make do print (f) end end, in file 1
+abbrev pub shows_function : ClassT
+shows_function =
+    creating nowhere (class nowhere "p" (function_of "f" "string" (fill "result" ∷ [])
+    ∷ routine_of "make" (show (the (inline 1 75) "f") ∷ []) ∷ []))
+
+-- class APP inherit P redefine f end create make feature f: STRING end
+abbrev pub function_as_field : ClassT
+function_as_field =
+    creating (at 43) (inherits (redefining "f" (parent "p") ∷ []) (class (at 7) "app" (field "f" ∷ [])))
+
+-- a class with one field, which its `make` sets
+abbrev pub filling : String → String → ClassT
+filling s f = class nowhere s (field f ∷ routine_of "make" (fill f ∷ []) ∷ [])
+
+-- class APP inherit P redefine make end Q redefine make end create make feature make do Precursor {P} end end, where P
+-- sets a and Q sets b
+abbrev pub of_two : String → List ClassT
+of_two s =
+    creating nowhere (inherits (redefining "make" (parent "p") ∷ redefining "make" (parent "q") ∷ [])
+    (class nowhere "app" (routine_of "make" (perform_version s ∷ []) ∷ [])))
+    ∷ filling "p" "a" ∷ filling "q" "b" ∷ []
+
 pub record ParentExamples : Type 0 where
   pub called : faults_of (both_made ∷ person ∷ []) 0 ≡ []
   pub own_body : told_of (both_made ∷ person ∷ []) 6 (codes "make")
@@ -75,6 +98,12 @@ pub record ParentExamples : Type 0 where
   -- title := "t"
   pub no_precursor : faults_of (with_precursor (fill "title" ∷ []) ∷ person ∷ []) 0
       ≡ leaves (with_precursor []) (at 51) "name" ∷ []
+  -- Precursor {P}, Precursor {Q}: the version of the parent that is named
+  pub of_the_first : told_of (of_two "p") 6 (codes "make") ≡ told [] ("a" ∷ [])
+  pub of_the_second : told_of (of_two "q") 6 (codes "make") ≡ told [] ("b" ∷ [])
+  -- the parent's text reads what is a field in the heir, and nothing sets it
+  pub redeclared_as_field : faults_of (function_as_field ∷ shows_function ∷ []) 0
+      ≡ needs function_as_field (inline 1 75) "f" ∷ leaves function_as_field (at 43) "f" ∷ []
 
 -- ---- bodies that lead to themselves
 
@@ -94,6 +123,18 @@ in_turns =
     app (field "name" ∷ routine_of "make" (fill "name" ∷ perform (any "odd") ∷ [])
     ∷ routine_of "even" (perform (any "odd") ∷ []) ∷ routine_of "odd" (perform (any "even") ∷ []) ∷ [])
 
+-- class P feature f do g end g do end end
+abbrev pub calls_g : ClassT
+calls_g = class nowhere "p" (routine_of "f" (perform (any "g") ∷ []) ∷ routine_of "g" [] ∷ [])
+
+-- class APP inherit P redefine f, g end create make feature name: STRING make do name := "a" f end f do Precursor end
+-- g do f end end
+abbrev pub by_precursor : ClassT
+by_precursor =
+    creating nowhere (inherits (redefining "g" (redefining "f" (parent "p")) ∷ [])
+    (class nowhere "app" (field "name" ∷ routine_of "make" (fill "name" ∷ perform (any "f") ∷ [])
+    ∷ routine_of "f" (perform_precursor nowhere ∷ []) ∷ routine_of "g" (perform (any "f") ∷ []) ∷ [])))
+
 pub record CircleExamples : Type 0 where
   pub needs_all : faults_alone with_help ≡ needs with_help (at 52) "name" ∷ []
   pub helper : told_of (with_help ∷ []) 6 (codes "help") ≡ told ("name" ∷ []) []
@@ -108,6 +149,9 @@ pub record CircleExamples : Type 0 where
   pub second_body : told_of (in_turns ∷ []) 6 (codes "even") ≡ told ("name" ∷ []) []
   -- one that merely calls such a body is none of them
   pub caller : told_of (in_turns ∷ []) 6 (codes "make") ≡ told [] ("name" ∷ [])
+  -- `f` leads to itself by Precursor and the heir's `g`
+  pub through_precursor : told_of (by_precursor ∷ calls_g ∷ []) 6 (codes "f") ≡ told ("name" ∷ []) []
+  pub called_when_set : faults_of (by_precursor ∷ calls_g ∷ []) 0 ≡ []
 
 -- ---- operands and constants
 
@@ -141,4 +185,11 @@ pub record OperandExamples : Type 0 where
       faults_alone (with_fill (
       when (two Implies (truth true) (dot (the (at 68) "name") "is_empty" [])) [] ∷ fill "name" ∷ []))
       ≡ needs (with_fill []) (at 68) "name" ∷ []
+  -- if True or else fill then print (name) end
+  pub or_else :
+      faults_alone (with_fill (when (two OrElse (truth true) (any "fill")) (show (the (at 85) "name") ∷ []) ∷ []))
+      ≡ needs (with_fill []) (at 85) "name" ∷ leaves (with_fill []) (at 18) "name" ∷ []
+  -- if True implies fill then end
+  pub implied : faults_alone (with_fill (when (two Implies (truth true) (any "fill")) [] ∷ []))
+      ≡ leaves (with_fill []) (at 18) "name" ∷ []
   pub constant_is_no_field : faults_alone with_constant ≡ []

@@ -3,16 +3,27 @@
 
 ghost use Rattle.eif_flow_rules.specs.MetNeeds.{NeedsAreMet};
 ghost use Rattle.eif_flow_rules.specs.SummaryLaws.{FarEnough};
-ghost use Rattle.eif_flow_rules_laws.specs.CreatorExamples.{BranchExamples, CurrentExamples, LoopExamples, InheritedExamples};
+ghost use Rattle.eif_flow_rules_laws.specs.CreatorExamples.{BranchExamples, CurrentExamples, LoopExamples, SeveralExamples, InheritedExamples};
+ghost use Rattle.eif_flow_rules_laws.specs.GenericExamples.{GenericExamples};
+ghost use Rattle.eif_flow_rules_laws.specs.OrderExamples.{OrderExamples, AssertionExamples};
 ghost use Rattle.eif_flow_rules_laws.specs.SelfCallExamples.{ParentExamples, CircleExamples, OperandExamples};
 ghost use Rattle.eif_flow_rules_laws.specs.NameExamples.{HeirExamples, HiddenExamples};
+ghost use Rattle.eif_flow_rules_laws.specs.TestLocalsAgree.{TestLocalsAgree};
 
 /// What a creator must set before it ends, and before it hands out `Current`.
 pub fn creator_examples()
     ensures branches { BranchExamples }
     ensures current { CurrentExamples }
     ensures loops { LoopExamples }
+    ensures several { SeveralExamples }
     ensures inherited { InheritedExamples }
+    ensures generic { GenericExamples }
+{}
+
+/// In which order what a creator does counts, and that assertions do not.
+pub fn order_examples()
+    ensures order { OrderExamples }
+    ensures assertions { AssertionExamples }
 {}
 
 /// What calls on the same object need and set: bodies of a parent, bodies that lead to themselves,
@@ -39,4 +50,10 @@ pub fn summaries_by_paths()
 /// what is said of it. So does a creator of which nothing is told.
 pub fn needs_are_met()
     ensures { NeedsAreMet }
+{}
+
+/// The test locals that a flow takes as usable are those of which the facts of an expression tell, by
+/// its tree.
+pub fn test_locals_agree()
+    ensures { TestLocalsAgree }
 {}

@@ -1,20 +1,15 @@
 -- Runs that show which version of a feature is called.
 use Prim.Native.String.{String}
 use Rattle.std.specs.Prelude.{◌≡◌, ℕ, List, [], ◌∷◌, codes}
-use Rattle.eif_tree.specs.declared.tree.Op.TheVariants as op
 use Rattle.eif_tree.specs.declared.tree.Literal.TheVariants as lit
-use Rattle.eif_tree.specs.Tree.{Ex, DeclT, ParentT, ClassT}
+use Rattle.eif_tree.specs.Tree.{Ex, Ins, DeclT, ParentT, ClassT}
 use Rattle.eif_meaning.specs.Run.{Ran, finished}
-use Rattle.eif_meaning.specs.BodyTexts.{plain, maybe, number, text, the, dot, parents_own, own_of, two, set, perform, show, make_as}
+use Rattle.eif_meaning.specs.BodyTexts.{plain, maybe, number, text, the, dot, set, perform, show, make_as}
 use Rattle.eif_meaning.specs.RunSystems.{has, field, fixed, later, does, gives, parent, renaming, redefining, selecting, class, heir, marked_deferred, app, making, run_of}
 
 -- a procedure that prints a number
 abbrev pub shower : String → ℕ → DeclT
 shower n i = does n (show (number i) ∷ [])
-
--- a function that gives the value of an expression
-abbrev pub teller : String → Ex → DeclT
-teller n e = gives n (plain "integer") (set "result" e ∷ [])
 
 -- calls `f` of a B on a C, which has these classes
 abbrev pub calls_f : List ClassT → Ran
@@ -87,15 +82,6 @@ both_versions =
 abbrev pub fixed_f : DeclT
 fixed_f = fixed "f" (plain "string") (lit.Text (codes "k"))
 
--- `f` by Precursor along two parents; the topmost one calls `g`, which the root redefines
-abbrev pub chain : List ClassT
-chain =
-    heir (redefining "f" (parent "q") ∷ []) (app (making [] (show (the "f") ∷ [])
-    ∷ teller "f" (two op.Plus parents_own (number 100)) ∷ teller "g" (number 7) ∷ []))
-    ∷ heir (redefining "f" (parent "p") ∷ []) (class "q" (teller "f" (two op.Plus parents_own (number 10)) ∷ []))
-    ∷ class "p" (teller "f" (the "g") ∷ teller "g" (number 1) ∷ [])
-    ∷ []
-
 -- creates a C, which has `default_create` of ANY as `start`, and one of its own
 abbrev pub creates_renamed : List ClassT
 creates_renamed =
@@ -104,12 +90,35 @@ creates_renamed =
     (class "c" (shower "start" 1 ∷ shower "default_create" 2 ∷ []))
     ∷ []
 
--- `f` by the Precursor of one of two parents
-abbrev pub of_two : String → List ClassT
-of_two n =
-    heir (redefining "f" (parent "p") ∷ redefining "f" (parent "q") ∷ [])
-    (app (making [] (show (the "f") ∷ []) ∷ teller "f" (own_of n) ∷ []))
-    ∷ class "p" (teller "f" (number 1) ∷ []) ∷ class "q" (teller "f" (number 2) ∷ []) ∷ []
+-- A with an `f` and a caller of it; B has it as `f1` and C as `f2`, and both redefine it; D and E inherit it by both,
+-- where D selects B's and E selects C's
+abbrev pub diamond : List ClassT
+diamond =
+    class "a" (shower "f" 1 ∷ does "call_f" (perform (the "f") ∷ []) ∷ [])
+    ∷ heir (redefining "f1" (renaming "f" "f1" (parent "a")) ∷ []) (class "b" (shower "f1" 11 ∷ []))
+    ∷ heir (redefining "f2" (renaming "f" "f2" (parent "a")) ∷ []) (class "c" (shower "f2" 22 ∷ []))
+    ∷ heir (selecting "f1" (parent "b") ∷ parent "c" ∷ []) (class "d" [])
+    ∷ heir (parent "b" ∷ selecting "f2" (parent "c") ∷ []) (class "e" [])
+    ∷ []
+
+-- with a local `x` of a class that has an object of another, beside these classes
+abbrev pub with_object : String → String → Ins → List ClassT → Ran
+with_object seen made last classes =
+    run_of 10 (app (making (has "x" (plain seen) ∷ []) (make_as (plain made) "x" ∷ last ∷ []) ∷ []) ∷ classes)
+
+-- calls a procedure of an object of one class of the diamond through another
+abbrev pub calls_through : String → String → String → Ran
+calls_through seen made procedure = with_object seen made (perform (dot (the "x") procedure)) diamond
+
+-- D has ANY's `out` as `old_out`, and an `out` of its own
+abbrev pub renamed_out : ClassT
+renamed_out =
+    heir (renaming "out" "old_out" (parent "any") ∷ [])
+    (class "d" (gives "out" (plain "string") (set "result" (text "new") ∷ []) ∷ []))
+
+-- shows an expression about an object `x` of D
+abbrev pub shows_of_d : Ex → Ran
+shows_of_d e = with_object "d" "d" (show e) (renamed_out ∷ [])
 
 -- with 10 levels and turns
 abbrev pub BindingRuns : Type 0
@@ -134,7 +143,20 @@ BindingRuns =
     × (run_heir (new_f ∷ []) (calls_show ∷ fixed_f ∷ []) shows_own ≡ finished (codes "k"))
     -- a creation without a creator's name runs what the class has for ANY's `default_create`
     × (run_of 10 creates_renamed ≡ finished (codes "1"))
-    -- Precursor runs a parent's version on Current
-    × (run_of 10 chain ≡ finished (codes "117"))
-    × (run_of 10 (of_two "p") ≡ finished (codes "1"))
-    × (run_of 10 (of_two "q") ≡ finished (codes "2"))
+    -- features that a class inherits by two parents: through A the selected version
+    × (calls_through "a" "d" "f" ≡ finished (codes "11"))
+    × (calls_through "a" "e" "f" ≡ finished (codes "22"))
+    -- through B and C the one that has their name
+    × (calls_through "b" "d" "f1" ≡ finished (codes "11"))
+    × (calls_through "c" "d" "f2" ≡ finished (codes "22"))
+    × (calls_through "b" "e" "f1" ≡ finished (codes "11"))
+    -- A's text calls the selected version, whichever class it is called through
+    × (calls_through "a" "d" "call_f" ≡ finished (codes "11"))
+    × (calls_through "c" "d" "call_f" ≡ finished (codes "11"))
+    × (calls_through "a" "e" "call_f" ≡ finished (codes "22"))
+    -- what both have from ANY is one feature
+    × (with_object "a" "d" (show (the "x")) diamond ≡ finished (codes "d"))
+    -- `print` asks for ANY's `out`, by the name that the class has for it
+    × (shows_of_d (the "x") ≡ finished (codes "d"))
+    × (shows_of_d (dot (the "x") "old_out") ≡ finished (codes "d"))
+    × (shows_of_d (dot (the "x") "out") ≡ finished (codes "new"))

@@ -2,7 +2,7 @@
 use Rattle.std.specs.Prelude.{ℕ, Bool, true, false, ◌&&◌, ◌==◌, List, [], ◌∷◌, length, flat_map, Option, Some, None, find}
 use Rattle.std.specs.Option.{option_map, option_and_then}
 use Rattle.eif_tree.specs.declared.tree.NameAt.{NameAt}
-use Rattle.eif_tree.specs.Members.{has_name}
+use Rattle.eif_tree.specs.Members.{has_name, locals_of}
 use Rattle.eif_tree.specs.Tree.{TypeT, GroupT, KindT, constant, routine, DeclT}
 use Rattle.eif_classes.specs.Entries.{Declaration}
 use Rattle.eif_classes.specs.Types.{TyT, Actuals, put_in}
@@ -52,11 +52,6 @@ pub data Entity : Type 0 where
 -- the type of the first that has the name
 abbrev pub type_in : List GroupT → List ℕ → Option TypeT
 type_in groups x = option_map (λ g. g.type_tree) (find (λ g. has_name g.names x) groups)
-
--- only a written routine has locals
-abbrev pub locals_of : KindT → List GroupT
-locals_of (routine groups body) = groups
-locals_of _ = []
 
 -- an argument hides a local
 abbrev pub entity_by : Option TypeT → Option TypeT → Option Entity

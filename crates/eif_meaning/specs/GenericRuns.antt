@@ -103,7 +103,8 @@ GenericRuns =
     -- types whose actuals differ in a mark alone do not conform
     × (with_cell strings (text "s") (is_alike (new_by (cell_of (maybe "string")) "make" (text "t" ∷ [])) ∷ [])
     ≡ finished (codes "False"))
-    -- a field of a detachable formal begins as Void, and one of a plain formal is unset, whatever the actual
+    -- in an object of the generic class itself a field of a detachable formal begins as Void, and one of a plain
+    -- formal is unset, whatever the actual
     × (with_cell integers (number 1) (dot (the "c") "spare" ∷ []) ≡ finished (codes "Void"))
     × (with_cell strings (text "s") (dot (new_by integers "leave_empty" []) "item" ∷ []) ≡ went_wrong unset [])
     × (run_of 10 boxes ≡ finished (codes "6"))

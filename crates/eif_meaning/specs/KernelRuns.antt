@@ -1,9 +1,6 @@
 -- Runs of the kernel: texts, strings and arrays.
-use Rattle.std.specs.Prelude.{◌≡◌, ℕ, negsuc, Bool, true, List, [], ◌∷◌, map, flat_map, replicate, is_some, codes}
+use Rattle.std.specs.Prelude.{◌≡◌, ℕ, Bool, true, List, [], ◌∷◌, map, flat_map, replicate, is_some, codes}
 use Rattle.std.specs.Option.{option_and_then}
-use Rattle.eif_tree.specs.declared.tree.Literal.{Literal}
-use Rattle.eif_tree.specs.declared.tree.Literal.TheVariants as lit
-use Rattle.eif_tree.specs.declared.tree.Op.{Op}
 use Rattle.eif_tree.specs.declared.tree.Op.TheVariants as op
 use Rattle.eif_tree.specs.Members.{declared_names}
 use Rattle.eif_tree.specs.Tree.{TypeT, Ex, Ins, DeclT, ClassT}
@@ -12,8 +9,8 @@ use Rattle.eif_system.specs.Universe.{class_number}
 use Rattle.eif_meaning.specs.Values.{unset, no_feature}
 use Rattle.eif_meaning.specs.KernelBodies.{built_in_body}
 use Rattle.eif_meaning.specs.Run.{Ran, finished, went_wrong}
-use Rattle.eif_meaning.specs.BodyTexts.{plain, generic, number, text, letter, truth, nobody, me, the, dot, dot_with, one, two, set, perform, show, make_by}
-use Rattle.eif_meaning.specs.RunSystems.{has, field, fixed, gives, parent, redefining, heir, app, making, run_of, run_alone, run_making, run_body}
+use Rattle.eif_meaning.specs.BodyTexts.{plain, generic, number, text, letter, truth, nobody, me, the, dot, dot_with, one, two, set, perform, show, make, make_by}
+use Rattle.eif_meaning.specs.RunSystems.{has, field, gives, parent, redefining, heir, app, making, run_of, run_making, run_body}
 
 -- of each routine of the kernel, whether its body is built in
 abbrev pub built_in_flags : ClassT → List Bool
@@ -50,6 +47,10 @@ with_array body =
     run_making 10 (has "a" (generic "array" (plain "integer" ∷ [])) ∷ [])
     (make_by "a" "make_filled" (number 7 ∷ number 3 ∷ number 5 ∷ [])
     ∷ perform (dot_with (the "a") "put" (number 8 ∷ number 4 ∷ [])) ∷ body)
+
+-- with a local `a` that was not filled
+abbrev pub with_unfilled : List Ins → Ran
+with_unfilled body = run_making 10 (has "a" (generic "array" (plain "integer" ∷ [])) ∷ []) (make "a" ∷ body)
 
 -- shows the item of an index
 abbrev pub shows_item : ℕ → Ins
@@ -89,9 +90,18 @@ KernelRuns =
     × (with_string (perform (dot (the "s") "make_empty") ∷ show (dot (the "t") "is_empty") ∷ show (the "t") ∷ [])
     ≡ finished (codes "True"))
     × (with_string (show (dot_with (the "s") "item" (number 2 ∷ [])) ∷ []) ≡ finished (codes "b"))
+    -- its `out` is a new STRING
+    × (with_string (show (dot (the "s") "out") ∷ show (two op.Equal (dot (the "s") "out") (the "s")) ∷ [])
+    ≡ finished (codes "abFalse"))
+    -- `append` takes a STRING alone, and `item` an INTEGER
+    × (with_string (appends (number 1) ∷ []) ≡ went_wrong no_feature [])
+    × (with_string (appends nobody ∷ []) ≡ went_wrong no_feature [])
+    × (with_string (show (dot_with (the "s") "item" (truth true ∷ [])) ∷ []) ≡ went_wrong no_feature [])
     -- an ARRAY, which may be filled again
     × (with_array (shows_item 3 ∷ shows_item 4 ∷ shows_item 5 ∷ []) ≡ finished (codes "787"))
     × (with_array shows_bounds ≡ finished (codes "335"))
     × (with_array (perform (dot_with (the "a") "make_filled" (number 9 ∷ number 1 ∷ number 0 ∷ [])) ∷ shows_bounds)
     ≡ finished (codes "010"))
     × (with_array (show (the "a") ∷ []) ≡ finished (codes "array"))
+    -- one that was not filled is empty, and begins at 0
+    × (with_unfilled shows_bounds ≡ finished (codes "00-1"))

@@ -12,6 +12,7 @@ pub mod Frames
 pub mod GenericRuns
 pub mod Growth
 pub mod HolderRuns
+pub mod InstructionRuns
 pub mod KernelBodies
 pub mod KernelRuns
 pub mod KernelTypes
@@ -22,6 +23,7 @@ pub mod Operands
 pub mod OperatorRuns
 pub mod Operators
 pub mod OrderRuns
+pub mod PrecursorRuns
 pub mod Run
 pub mod RunSystems
 pub mod StoppedRuns

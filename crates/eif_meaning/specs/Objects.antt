@@ -27,7 +27,8 @@ abbrev pub start_value : TyT → Value
 start_value (class_type d m ts) = if same_mark m Detachable then void else basic_start d
 start_value _ = void
 
--- by its type as it is written; a holder without a value is unset
+-- by its type over the formals of a class: a field by that in the object's class, a local and `Result` by that in the
+-- class of the body; a holder without a value is unset
 abbrev pub start : TyT → Option Value
 start t = if is_self_initialising t then Some (start_value t) else None
 

@@ -3,9 +3,10 @@ use Rattle.std.specs.Prelude.{◌≡◌, ℕ, true, false, List, [], ◌∷◌, 
 use Rattle.eif_tree.specs.declared.tree.Op.{Op}
 use Rattle.eif_tree.specs.declared.tree.Op.TheVariants as op
 use Rattle.eif_tree.specs.Tree.{Ex, Ins, DeclT, ClassT}
-use Rattle.eif_meaning.specs.Run.{Ran, finished, halted}
-use Rattle.eif_meaning.specs.BodyTexts.{plain, maybe, number, truth, nobody, me, the, apply, dot, dot_with, two, set, perform, show, make_by, when}
-use Rattle.eif_meaning.specs.RunSystems.{has, field, does_with, gives, gives_with, class, app, making, run_of, run_alone, run_body}
+use Rattle.eif_meaning.specs.Values.{void_target, no_feature}
+use Rattle.eif_meaning.specs.Run.{Ran, finished, halted, went_wrong}
+use Rattle.eif_meaning.specs.BodyTexts.{plain, maybe, number, truth, nobody, me, the, apply, dot, dot_with, new, two, set, perform, show, make_by, when}
+use Rattle.eif_meaning.specs.RunSystems.{has, field, does, does_with, gives, gives_with, class, app, making, run_of, run_alone, run_body}
 
 -- prints its argument, and gives it
 abbrev pub say : DeclT
@@ -26,9 +27,9 @@ abbrev pub takes_two : DeclT
 takes_two =
     does_with "takes_two" (has "i" (plain "integer") ∷ has "j" (plain "integer") ∷ []) [] (show (number 4) ∷ [])
 
--- a body beside these
+-- a body with a local `a` beside these
 abbrev pub run_saying : List Ins → Ran
-run_saying body = run_alone 10 (making [] body ∷ say ∷ itself ∷ takes_two ∷ [])
+run_saying body = run_alone 10 (making (has "a" (plain "any") ∷ []) body ∷ say ∷ itself ∷ takes_two ∷ [])
 
 -- a BOOLEAN expression that is a stop
 abbrev pub stops : Ex
@@ -47,6 +48,14 @@ tells_early =
     (show (two op.Equal (dot (the "a") "b") nobody) ∷ []) ∷ [])
     ∷ []
 
+-- the target of a creation is an argument, and its creator prints 5
+abbrev pub creates_argument : List ClassT
+creates_argument =
+    app (making [] (perform (apply "f" (new (plain "b") ∷ [])) ∷ [])
+    ∷ does_with "f" (has "b" (plain "b") ∷ []) [] (make_by "b" "tell" [] ∷ []) ∷ [])
+    ∷ class "b" (does "tell" (show (number 5) ∷ []) ∷ [])
+    ∷ []
+
 -- with 10 levels and turns
 abbrev pub OrderRuns : Type 0
 OrderRuns =
@@ -54,6 +63,11 @@ OrderRuns =
     (run_saying (perform (apply "takes_two" (said 2 ∷ said 3 ∷ [])) ∷ []) ≡ finished (codes "234"))
     × (run_saying (perform (dot_with (the "itself") "takes_two" (said 2 ∷ said 3 ∷ [])) ∷ [])
     ≡ finished (codes "1234"))
+    -- the arguments, and then a missing name, a wrong count, and a target that is Void
+    × (run_saying (perform (apply "nope" (said 2 ∷ [])) ∷ []) ≡ went_wrong no_feature (codes "2"))
+    × (run_saying (perform (dot_with me "takes_two" (said 2 ∷ [])) ∷ []) ≡ went_wrong no_feature (codes "2"))
+    × (run_saying (make_by "a" "default_create" (said 2 ∷ []) ∷ []) ≡ went_wrong no_feature (codes "2"))
+    × (run_saying (perform (dot_with nobody "nope" (said 2 ∷ [])) ∷ []) ≡ went_wrong void_target (codes "2"))
     -- the left operand before the right one
     × (run_saying (show (two op.Minus (said 1) (said 2)) ∷ []) ≡ finished (codes "12-1"))
     × (run_saying (show (two op.Equal (said 1) (said 2)) ∷ []) ≡ finished (codes "12False"))
@@ -74,6 +88,7 @@ OrderRuns =
     × (shows op.Xor (truth true) (truth true) ≡ finished (codes "False"))
     -- a creation: the arguments, the creator on the object, and only then the target
     × (run_of 10 tells_early ≡ finished (codes "1TrueFalse"))
+    × (run_of 10 creates_argument ≡ went_wrong no_feature (codes "5"))
     -- one branch alone
     × (run_saying (when (truth true) (show (said 1) ∷ []) (show (said 2) ∷ []) ∷ []) ≡ finished (codes "11"))
     × (run_saying (when (truth false) (show (said 1) ∷ []) (show (said 2) ∷ []) ∷ []) ≡ finished (codes "22"))

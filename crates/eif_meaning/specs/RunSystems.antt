@@ -1,4 +1,5 @@
--- Classes in a few words, and the runs of systems whose root is app.make.
+-- Classes in a few words, and the runs of systems whose root is app.make. Such a system need not pass the rules: some
+-- of its classes have no creators part, and are created by a procedure all the same.
 use Prim.Native.String.{String}
 use Rattle.std.specs.Prelude.{ℕ, true, List, [], ◌∷◌, ◌++◌, Option, Some, None, codes}
 use Rattle.eif_tree.specs.declared.tree.Literal.{Literal}
@@ -59,11 +60,11 @@ renaming old new p = record p { renames = p.renames ++ record { old_name = name 
 
 -- P redefine n end
 abbrev pub redefining : String → ParentT → ParentT
-redefining n p = record p { redefines = name n ∷ [] }
+redefining n p = record p { redefines = p.redefines ++ name n ∷ [] }
 
 -- P select n end
 abbrev pub selecting : String → ParentT → ParentT
-selecting n p = record p { selects = name n ∷ [] }
+selecting n p = record p { selects = p.selects ++ name n ∷ [] }
 
 -- ---- classes
 

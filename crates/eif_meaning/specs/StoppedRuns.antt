@@ -1,22 +1,28 @@
 -- Runs that are stopped.
-use Rattle.std.specs.Prelude.{◌≡◌, ℕ, false, List, [], ◌∷◌, ◌++◌, length, nat_le, codes}
+use Rattle.std.specs.Prelude.{◌≡◌, ℕ, false, List, [], ◌∷◌, ◌++◌, length, Some, nat_le, codes}
 use Rattle.eif_tree.specs.declared.tree.Op.TheVariants as op
 use Rattle.eif_tree.specs.Tree.{Ins, Ex}
-use Rattle.eif_meaning.specs.Values.{State, stopped}
+use Rattle.eif_meaning.specs.Values.{Object, State, stopped}
+use Rattle.eif_meaning.specs.Objects.{object_of}
+use Rattle.eif_meaning.specs.Frames.{Frame}
 use Rattle.eif_meaning.specs.Operands.{most_items, bytes_or_stop, give_string}
+use Rattle.eif_meaning.specs.BuiltIns.{append_bytes}
 use Rattle.eif_meaning.specs.Run.{Ran, finished, halted}
-use Rattle.eif_meaning.specs.BodyTexts.{plain, generic, number, text, the, dot, dot_with, one, two, perform, show, make_by}
+use Rattle.eif_meaning.specs.BodyTexts.{plain, generic, number, text, the, dot, dot_with, one, two, perform, show, make, make_by}
 use Rattle.eif_meaning.specs.RunSystems.{has, run_making, run_body}
 
 -- prints "a", and then shows the value of an expression
 abbrev pub shows_after : Ex → Ran
 shows_after e = run_body 10 (show (text "a") ∷ show e ∷ [])
 
--- prints "a", fills an ARRAY `a` with 7 from one index to another, and goes on
+-- prints "a", makes an ARRAY `a`, and goes on
+abbrev pub with_array : Ins → Ins → Ran
+with_array makes last =
+    run_making 10 (has "a" (generic "array" (plain "integer" ∷ [])) ∷ []) (show (text "a") ∷ makes ∷ last ∷ [])
+
+-- fills it with 7 from one index to another
 abbrev pub fills : Ex → Ex → Ins → Ran
-fills lo up last =
-    run_making 10 (has "a" (generic "array" (plain "integer" ∷ [])) ∷ [])
-    (show (text "a") ∷ make_by "a" "make_filled" (number 7 ∷ lo ∷ up ∷ []) ∷ last ∷ [])
+fills lo up last = with_array (make_by "a" "make_filled" (number 7 ∷ lo ∷ up ∷ [])) last
 
 -- from 3 to 4
 abbrev pub fills_two : Ins → Ran
@@ -34,11 +40,26 @@ puts i = perform (dot_with (the "a") "put" (number 8 ∷ i ∷ []))
 abbrev pub minus_one : Ex
 minus_one = one op.Minus (number 1)
 
--- a STRING has no more bytes than the greatest number
+-- the greatest INTEGER
+abbrev pub greatest : Ex
+greatest = number 9223372036854775807
+
+-- the least INTEGER, which has no literal
+abbrev pub least : Ex
+least = two op.Minus (one op.Minus greatest) (number 1)
+
+-- a sum has no more bytes than a STRING may have
 abbrev pub LongTextStops : Type 0
 LongTextStops =
     (a b : List ℕ) (s : State) → nat_le (length (a ++ b)) most_items ≡ false
     → bytes_or_stop (a ++ b) give_string s ≡ stopped s.store.printed
+
+-- nor has a STRING to which others are appended
+abbrev pub LongAppendStops : Type 0
+LongAppendStops =
+    (c : Frame) (bytes : List ℕ) (o : Object) (s : State) → object_of s.store.heap c.current ≡ Some o
+    → nat_le (length (o.content.bytes ++ bytes)) most_items ≡ false
+    → append_bytes c bytes s ≡ stopped s.store.printed
 
 -- with 10 levels and turns
 abbrev pub StoppedRuns : Type 0
@@ -60,9 +81,13 @@ StoppedRuns =
     × (fills_two (puts (number 2)) ≡ halted (codes "a"))
     × (fills_two (puts (number 4)) ≡ finished (codes "a"))
     × (fills_two (puts (number 5)) ≡ halted (codes "a"))
-    -- a number of values that is 0, negative, past 16,777,216, and past the greatest INTEGER
+    -- one that was not filled has no item
+    × (with_array (make "a") (shows_item (number 0)) ≡ halted (codes "a"))
+    -- a number of values that is 0, negative, past 16,777,216, and past the greatest INTEGER, where it is not wrapped
+    -- to 0
     × (fills (number 4) (number 3) (show (dot (the "a") "count")) ≡ finished (codes "a0"))
     × (fills (number 5) (number 3) (show (dot (the "a") "count")) ≡ halted (codes "a"))
     × (fills (number 1) (number 16777217) (show (dot (the "a") "lower")) ≡ halted (codes "a"))
-    × (fills minus_one (number 9223372036854775807) (show (dot (the "a") "lower")) ≡ halted (codes "a"))
+    × (fills least greatest (show (dot (the "a") "count")) ≡ halted (codes "a"))
     × LongTextStops
+    × LongAppendStops

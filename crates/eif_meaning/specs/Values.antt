@@ -50,7 +50,9 @@ pub data Wrong : Type 0 where
   void_target : Wrong
   -- a field, a local or `Result` is read while it is unset, or a function ends with its `Result` unset
   unset : Wrong
-  -- a name, a binding or a class is missing, or does not take what it is given, or gives no value that is used
+  -- a name, a binding or a class is missing; a binding is deferred; a class may not be created; a count of arguments
+  -- differs; a call without result is used as a value; an operand, an argument of a built-in body or a target is of no
+  -- kind that is taken
   no_feature : Wrong
   -- a condition or an exit gives no boolean
   not_boolean : Wrong

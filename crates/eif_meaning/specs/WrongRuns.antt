@@ -1,11 +1,12 @@
 -- Runs that go wrong.
+use Prim.Native.String.{String}
 use Rattle.std.specs.Prelude.{◌≡◌, true, List, [], ◌∷◌, codes}
 use Rattle.eif_tree.specs.declared.tree.Op.TheVariants as op
 use Rattle.eif_tree.specs.Tree.{Ex, Ins, DeclT, ClassT}
 use Rattle.eif_meaning.specs.Values.{void_target, unset, no_feature, not_boolean}
 use Rattle.eif_meaning.specs.System.{system_of}
 use Rattle.eif_meaning.specs.Run.{Ran, unfinished, went_wrong, run}
-use Rattle.eif_meaning.specs.BodyTexts.{plain, maybe, number, text, truth, nobody, answer, the, apply, dot, dot_with, new, new_by, is_there, one, two, set, perform, show, make, make_as, when, until}
+use Rattle.eif_meaning.specs.BodyTexts.{plain, maybe, number, text, truth, nobody, answer, the, apply, dot, dot_with, new, new_by, is_there, one, two, parents_own, set, perform, show, make, make_as, when, until}
 use Rattle.eif_meaning.specs.RunSystems.{has, field, later, does, does_with, gives, parent, class, heir, marked_deferred, app, making, run_of, run_alone, run_making, run_body}
 
 -- prints "l", and gives a STRING
@@ -51,6 +52,11 @@ abbrev pub creates_deferred : List ClassT
 creates_deferred =
     app (making (has "b" (plain "b") ∷ []) (make "b" ∷ []) ∷ []) ∷ marked_deferred (class "b" []) ∷ []
 
+-- shows a query of 1 through a local `s` of a class
+abbrev pub shows_through : String → String → Ran
+shows_through class_name query =
+    run_making 10 (has "s" (plain class_name) ∷ []) (set "s" (number 1) ∷ show (dot (the "s") query) ∷ [])
+
 -- shows the value of an expression
 abbrev pub shows : Ex → Ran
 shows e = run_body 10 (show e ∷ [])
@@ -73,6 +79,11 @@ WrongRuns =
     × (run_alone 10 (calls_with_one (perform (the "f") ∷ [])) ≡ went_wrong no_feature [])
     × (run_alone 2 (calls_with_one (perform (the "f") ∷ [])) ≡ went_wrong no_feature [])
     × (run_alone 2 (calls_with_one (perform (apply "f" (number 1 ∷ [])) ∷ [])) ≡ unfinished [])
+    -- a name of the seen class that the object's class has not, a seen class that is not there, and Precursor where no
+    -- parent has a version
+    × (shows_through "string" "count" ≡ went_wrong no_feature [])
+    × (shows_through "nope" "out" ≡ went_wrong no_feature [])
+    × (run_body 10 (perform parents_own ∷ []) ≡ went_wrong no_feature [])
     -- a deferred binding; creations of a deferred class, of INTEGER, by a missing creator and by a field
     × (run_of 10 calls_deferred ≡ went_wrong no_feature [])
     × (run_of 10 creates_deferred ≡ went_wrong no_feature [])
@@ -82,6 +93,7 @@ WrongRuns =
     ≡ went_wrong no_feature [])
     -- a call without result is used as a value, which is told after it ran
     × (run_alone 10 (making [] (show (the "noisy") ∷ []) ∷ noisy ∷ []) ≡ went_wrong no_feature (codes "n"))
+    × (run_body 10 (when (apply "print" (number 1 ∷ [])) [] [] ∷ []) ≡ went_wrong no_feature (codes "1"))
     -- a source is evaluated, and then its target is an argument, a bound test local or a routine
     × (run_alone 10 (calls_with_one (set "i" (the "loud") ∷ [])) ≡ went_wrong no_feature (codes "l"))
     × (run_alone 10 (calls_with_one (when (is_there "y" (number 1)) (set "y" (the "loud") ∷ []) [] ∷ []))

@@ -7,10 +7,12 @@ ghost use Rattle.eif_meaning.specs.FirstRuns.{FirstRuns};
 ghost use Rattle.eif_meaning.specs.GenericRuns.{GenericRuns};
 ghost use Rattle.eif_meaning.specs.Growth.{RunsGrow};
 ghost use Rattle.eif_meaning.specs.HolderRuns.{HolderRuns};
+ghost use Rattle.eif_meaning.specs.InstructionRuns.{InstructionRuns};
 ghost use Rattle.eif_meaning.specs.KernelRuns.{KernelRuns};
 ghost use Rattle.eif_meaning.specs.ListRun.{ListRun};
 ghost use Rattle.eif_meaning.specs.OperatorRuns.{OperatorRuns};
 ghost use Rattle.eif_meaning.specs.OrderRuns.{OrderRuns};
+ghost use Rattle.eif_meaning.specs.PrecursorRuns.{PrecursorRuns};
 ghost use Rattle.eif_meaning.specs.StoppedRuns.{StoppedRuns};
 ghost use Rattle.eif_meaning.specs.TestRuns.{TestRuns};
 ghost use Rattle.eif_meaning.specs.WrongRuns.{WrongRuns};
@@ -27,7 +29,9 @@ pub fn worked_runs()
     ensures wrong { WrongRuns }
     ensures stopped { StoppedRuns }
     ensures order { OrderRuns }
+    ensures instructions { InstructionRuns }
     ensures binding { BindingRuns }
+    ensures precursors { PrecursorRuns }
     ensures generic { GenericRuns }
     ensures holders { HolderRuns }
     ensures tests { TestRuns }

@@ -2,11 +2,12 @@
 use Rattle.std.proofs.Common.{◌≡◌, ℕ, ◌==◌, ◌&&◌, true, List, [], length, flat_map, Some, None, sym, ap, ap₂, subst, ◌∙◌}
 use Rattle.std.specs.Prelude.{if◌then◌else◌}
 use Rattle.std.specs.Option.{option_and_then, option_map}
+use Rattle.eif_tree.specs.Members.{locals_of}
 use Rattle.eif_tree.specs.Tree.{DeclT}
 use Rattle.eif_classes.specs.Types.{Actuals, put_in_all}
 use Rattle.eif_meaning.specs.Values.{Value, Object, Store, no_feature, wrong}
 use Rattle.eif_meaning.specs.System.{System}
-use Rattle.eif_meaning.specs.Frames.{Body, Runner, entity, entity_by, type_in, locals_of, is_routine, takes}
+use Rattle.eif_meaning.specs.Frames.{Body, Runner, entity, entity_by, type_in, is_routine, takes}
 use Rattle.eif_meaning.specs.Calls.{body_on, run_body, run_declaration}
 use Rattle.eif_sound.proofs.Heaps.{Grow, IsOf}
 use Rattle.eif_sound.proofs.Keeps.{Safe}

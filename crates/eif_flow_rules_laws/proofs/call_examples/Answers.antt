@@ -15,6 +15,9 @@ returns-clause-parents c = record {
   in_the_parent = refl;
   precursor_sets = refl;
   no_precursor = refl;
+  of_the_first = refl;
+  of_the_second = refl;
+  redeclared_as_field = refl;
 }
 
 pub returns-clause-circles : goal.returns-clause-circles
@@ -27,6 +30,8 @@ returns-clause-circles c = record {
   two_bodies = refl;
   second_body = refl;
   caller = refl;
+  through_precursor = refl;
+  called_when_set = refl;
 }
 
 pub returns-clause-operands : goal.returns-clause-operands
@@ -36,5 +41,7 @@ returns-clause-operands c = record {
   may_not_run = refl;
   set_inside = refl;
   needs_too = refl;
+  or_else = refl;
+  implied = refl;
   constant_is_no_field = refl;
 }

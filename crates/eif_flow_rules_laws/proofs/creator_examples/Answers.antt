@@ -29,10 +29,26 @@ returns-clause-loops c = record {
   set_by_exit = refl;
 }
 
+pub returns-clause-several : goal.returns-clause-several
+unfolding kernel line_of
+returns-clause-several c = record {
+  each_alone = refl;
+  default_by_its_name = refl;
+}
+
 pub returns-clause-inherited : goal.returns-clause-inherited
 unfolding kernel line_of
 returns-clause-inherited c = record {
   new_field = refl;
   of_the_parent = refl;
   replicated = refl;
+}
+
+pub returns-clause-generic : goal.returns-clause-generic
+unfolding kernel line_of
+returns-clause-generic c = record {
+  of_a_formal = refl;
+  of_a_detachable_formal = refl;
+  of_an_integer = refl;
+  of_a_string = refl;
 }

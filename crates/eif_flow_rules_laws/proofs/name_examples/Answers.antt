@@ -16,4 +16,10 @@ unfolding kernel line_of
 returns-clause-hidden c = record {
   by_a_local = refl;
   by_a_test_local = refl;
+  by_and_then = refl;
+  by_implies = refl;
+  by_or_else = refl;
+  not_by_and = refl;
+  by_not = refl;
+  by_an_exit = refl;
 }

@@ -3,7 +3,7 @@ use Rattle.std.specs.Fmt.{digits}
 use Rattle.eif_system.specs.Kernel.{kernel}
 use Rattle.eif_system.specs.Lineage.{line_of}
 use Rattle.eif_meaning.proofs.EndlessRun.{endless_is_cut_off}
-use Rattle.eif_meaning.proofs.LongTexts.{long_text_stops}
+use Rattle.eif_meaning.proofs.LongTexts.{long_text_stops, long_append_stops}
 use Rattle.eif_meaning.proofs.worked_runs.Goals as goal
 
 pub returns-clause-first : goal.returns-clause-first
@@ -16,15 +16,23 @@ returns-clause-wrong c = search rules
 
 pub returns-clause-stopped : goal.returns-clause-stopped
 unfolding kernel line_of digits
-returns-clause-stopped c = search long_text_stops
+returns-clause-stopped c = search (long_text_stops, long_append_stops)
 
 pub returns-clause-order : goal.returns-clause-order
 unfolding kernel line_of digits
 returns-clause-order c = search rules
 
+pub returns-clause-instructions : goal.returns-clause-instructions
+unfolding kernel line_of digits
+returns-clause-instructions c = search rules
+
 pub returns-clause-binding : goal.returns-clause-binding
 unfolding kernel line_of digits
 returns-clause-binding c = search rules
+
+pub returns-clause-precursors : goal.returns-clause-precursors
+unfolding kernel line_of digits
+returns-clause-precursors c = search rules
 
 pub returns-clause-generic : goal.returns-clause-generic
 unfolding kernel line_of digits
