@@ -5,8 +5,8 @@ use Rattle.std.specs.Str.{bytes_eq}
 use Rattle.eif_base.specs.declared.code.Code.TheVariants as code
 use Rattle.eif_base.specs.declared.fault.Fault.{Fault}
 use Rattle.eif_tree.specs.declared.tree.NameAt.{NameAt}
-use Rattle.eif_tree.specs.Tree.{GroupT, KindT, routine, DeclT, ClassT}
-use Rattle.eif_classes.specs.Features.{has_feature}
+use Rattle.eif_tree.specs.Tree.{GroupT, DeclT, ClassT}
+use Rattle.eif_classes.specs.Features.{has_feature, local_groups}
 use Rattle.eif_classes.specs.Resolution.{resolved}
 use Rattle.eif_classes.specs.Types.{TyT}
 use Rattle.eif_rules.specs.FaultForms.{fault_where}
@@ -21,10 +21,6 @@ entities_of u c is_local gs = flat_map (λ g. map (entity_at is_local (resolved 
 
 abbrev pub arguments_of : List ClassT → ClassT → DeclT → List Entity
 arguments_of u c x = entities_of u c false x.arguments
-
-abbrev pub local_groups : KindT → List GroupT
-local_groups (routine gs is) = gs
-local_groups _ = []
 
 abbrev pub locals_of : List ClassT → ClassT → DeclT → List Entity
 locals_of u c x = entities_of u c true (local_groups x.kind)

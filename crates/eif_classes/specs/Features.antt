@@ -5,7 +5,7 @@ use Rattle.std.specs.Option.{option_map, option_and_then}
 use Rattle.std.specs.Str.{bytes_eq}
 use Rattle.eif_base.specs.Numbering.{is_among}
 use Rattle.eif_tree.specs.Members.{has_name, declarations, declared_names}
-use Rattle.eif_tree.specs.Tree.{ParentT, KindT, attribute, deferred_body, DeclT, ClassT}
+use Rattle.eif_tree.specs.Tree.{GroupT, ParentT, KindT, attribute, deferred_body, routine, DeclT, ClassT}
 use Rattle.eif_classes.specs.Entries.{Declaration, Origin, deferred, declared_as, Feature, Entry, entry, entries_of, lasts, joined, leading}
 use Rattle.eif_system.specs.Lineage.{Line, line, cut, Ups, up, top}
 use Rattle.eif_classes.specs.Names.{name_set}
@@ -77,6 +77,11 @@ feature l n = find (λ f. bytes_eq f.name n) (features l)
 -- the origin of a name
 abbrev pub origin : Line → List ℕ → Option Origin
 origin l n = option_map (λ f. f.origin) (feature l n)
+
+-- the locals of a written routine, in the groups of its text; nothing else has any
+abbrev pub local_groups : KindT → List GroupT
+local_groups (routine groups body) = groups
+local_groups _ = []
 
 -- a constant is a routine, and no attribute
 abbrev pub is_attribute : KindT → Bool

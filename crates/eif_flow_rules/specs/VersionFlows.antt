@@ -1,14 +1,14 @@
 -- What the body of a version does on an object of a class, which may be an heir of the class that declares it.
-use Rattle.std.specs.Prelude.{ℕ, false, if◌then◌else◌, List, [], ◌∷◌, ◌++◌, map, flat_map, Option, Some, None, codes, slice_get}
+use Rattle.std.specs.Prelude.{ℕ, false, if◌then◌else◌, List, [], ◌∷◌, ◌++◌, map, flat_map, Option, Some, None, slice_get}
 use Rattle.std.specs.List.{cons_option, filter_map}
 use Rattle.std.specs.Option.{option_and_then, option_map, option_map_or}
 use Rattle.eif_base.specs.declared.place.Place.{Place}
-use Rattle.eif_tree.specs.Members.{declared_names, body_of, locals_of}
+use Rattle.eif_tree.specs.Members.{declared_names, body_of, result_name}
 use Rattle.eif_tree.specs.Tree.{GroupT, DeclT, ClassT}
 use Rattle.eif_classes.specs.Binding.{bind}
 use Rattle.eif_classes.specs.Descent.{class_of, above}
 use Rattle.eif_classes.specs.Entries.{Declaration, Origin, declared_as, entries_of}
-use Rattle.eif_classes.specs.Features.{declaration_of, entries_in, origin, is_attribute, is_field}
+use Rattle.eif_classes.specs.Features.{declaration_of, entries_in, origin, local_groups, is_attribute, is_field}
 use Rattle.eif_system.specs.Lineage.{Line, line_of}
 use Rattle.eif_classes.specs.Precursors.{precursor}
 use Rattle.eif_flow_rules.specs.FlowSteps.{Meanings, compound_flow}
@@ -22,7 +22,7 @@ group_names groups = flat_map (λ g. map (λ n. n.name) g.names) groups
 
 -- the names in the body of a declaration that aren't features: `Result`, arguments and locals
 abbrev pub entity_names : DeclT → List (List ℕ)
-entity_names x = codes "result" ∷ group_names x.arguments ++ group_names (locals_of x.kind)
+entity_names x = result_name ∷ group_names x.arguments ++ group_names (local_groups x.kind)
 
 -- a version that isn't a field has a body; that of a constant or a built-in routine does nothing
 abbrev pub body_in : Origin → Option Declaration

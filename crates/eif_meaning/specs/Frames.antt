@@ -2,9 +2,10 @@
 use Rattle.std.specs.Prelude.{ℕ, Bool, true, false, ◌&&◌, ◌==◌, List, [], ◌∷◌, length, flat_map, Option, Some, None, find}
 use Rattle.std.specs.Option.{option_map, option_and_then}
 use Rattle.eif_tree.specs.declared.tree.NameAt.{NameAt}
-use Rattle.eif_tree.specs.Members.{has_name, locals_of}
+use Rattle.eif_tree.specs.Members.{has_name}
 use Rattle.eif_tree.specs.Tree.{TypeT, GroupT, KindT, constant, routine, DeclT}
 use Rattle.eif_classes.specs.Entries.{Declaration}
+use Rattle.eif_classes.specs.Features.{local_groups}
 use Rattle.eif_classes.specs.Types.{TyT, Actuals, put_in}
 use Rattle.eif_meaning.specs.Values.{Value, Store, State, Outcome}
 use Rattle.eif_meaning.specs.System.{System}
@@ -61,7 +62,7 @@ entity_by None None = None
 
 -- the entity of a name, if it has one
 abbrev pub entity : DeclT → List ℕ → Option Entity
-entity d x = entity_by (type_in d.arguments x) (type_in (locals_of d.kind) x)
+entity d x = entity_by (type_in d.arguments x) (type_in (local_groups d.kind) x)
 
 -- ---- how a body begins
 
@@ -89,7 +90,7 @@ arguments_by (n ∷ ns) (v ∷ vs) = set_at n.name (Some v) (arguments_by ns vs)
 abbrev pub first_state : System → Body → Store → State
 first_state system b s = record {
   store = s;
-  local = λ x. option_and_then (λ t. start (system.resolve b.class_number t)) (type_in (locals_of b.tree.kind) x);
+  local = λ x. option_and_then (λ t. start (system.resolve b.class_number t)) (type_in (local_groups b.tree.kind) x);
   result = option_and_then (λ t. start (system.resolve b.class_number t)) b.tree.result_type;
   test = λ x. None;
 }

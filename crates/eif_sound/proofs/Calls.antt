@@ -2,8 +2,8 @@
 use Rattle.std.proofs.Common.{◌≡◌, ℕ, ◌==◌, ◌&&◌, true, List, [], length, flat_map, Some, None, sym, ap, ap₂, subst, ◌∙◌}
 use Rattle.std.specs.Prelude.{if◌then◌else◌}
 use Rattle.std.specs.Option.{option_and_then, option_map}
-use Rattle.eif_tree.specs.Members.{locals_of}
 use Rattle.eif_tree.specs.Tree.{DeclT}
+use Rattle.eif_classes.specs.Features.{local_groups}
 use Rattle.eif_classes.specs.Types.{Actuals, put_in_all}
 use Rattle.eif_meaning.specs.Values.{Value, Object, Store, no_feature, wrong}
 use Rattle.eif_meaning.specs.System.{System}
@@ -34,7 +34,7 @@ takes_none known tree b =
 -- it has no argument and no local
 pub no_entity : (known : Names) (tree : DeclT) → FineBody known tree → (x : List ℕ) → entity tree x ≡ None
 no_entity known tree b x =
-    ap₂ (λ groups kind. entity_by (type_in groups x) (type_in (locals_of kind) x)) b.arguments_are b.kind_is
+    ap₂ (λ groups kind. entity_by (type_in groups x) (type_in (local_groups kind) x)) b.arguments_are b.kind_is
 
 module _ (system : System) (d : ℕ) (known : Names) (lawful : Lawful system d known)
     (runner : Runner) (ok : RunnerOk system d known runner) where

@@ -3,7 +3,7 @@ use Rattle.std.specs.Prelude.{ℕ, Bool, List, [], ◌∷◌, ◌++◌, flat_map
 use Rattle.std.specs.List.{list_any}
 use Rattle.std.specs.Str.{bytes_eq}
 use Rattle.eif_tree.specs.declared.tree.NameAt.{NameAt}
-use Rattle.eif_tree.specs.Tree.{Ins, call, Inss, no_inss, and_ins, unqualified, no_exs, GroupT, KindT, routine, DeclT, ClassT}
+use Rattle.eif_tree.specs.Tree.{Ins, call, Inss, no_inss, and_ins, unqualified, no_exs, KindT, routine, DeclT, ClassT}
 
 -- one of them has that name
 abbrev pub has_name : List NameAt → List ℕ → Bool
@@ -29,11 +29,6 @@ creator_names c = flat_map (λ part. part.names) c.creators
 abbrev pub body_of : KindT → Inss
 body_of (routine locals body) = body
 body_of _ = no_inss
-
--- only a written routine has locals
-abbrev pub locals_of : KindT → List GroupT
-locals_of (routine groups body) = groups
-locals_of _ = []
 
 -- the unqualified calls without arguments that are instructions of a body
 abbrev pub called_by : Ins → List NameAt
