@@ -1,0 +1,3 @@
+pub mod RisingNumbers
+pub mod Unfolding
+pub mod Descending

@@ -1,0 +1,22 @@
+//! Laws of the lines of classes: what a class has by its parent clauses and whom it descends from.
+//! A law is a clause of a function that does nothing; its proof serves other crates as a lemma.
+#![tactic(auto)]
+
+ghost use Rattle.eif_lineage_laws.specs.Lineages.{LinesUnfold, DescentIsReaching, AncestorsAreListed, AncestorsStandBefore};
+
+/// The line of a class stands over the lines of the classes of its parent clauses.
+pub fn lines_unfold()
+    ensures { LinesUnfold }
+{}
+
+/// A class descends from exactly those that the graph of parents leads to.
+pub fn descent_is_reaching()
+    ensures { DescentIsReaching }
+{}
+
+/// The proper ancestors of a class are listed by rising number, and stand before it in an order of
+/// inheritance.
+pub fn ancestors_are_listed()
+    ensures listed { AncestorsAreListed }
+    ensures before { AncestorsStandBefore }
+{}
