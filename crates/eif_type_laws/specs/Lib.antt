@@ -1,0 +1,2 @@
+pub mod ClassTypes
+pub mod TypeLaws
