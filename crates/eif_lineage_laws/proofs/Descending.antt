@@ -45,7 +45,7 @@ module _ (u : List ClassT) where
       go zero = refl
       go (suc n) = ap (line_at u (lineage n u) d) e
 
-  class_or_none : (d : ℕ) → ((c : ClassT) × (slice_get u d ≡ Some c)) ⊎ (slice_get u d ≡ None)
+  pub class_or_none : (d : ℕ) → ((c : ClassT) × (slice_get u d ≡ Some c)) ⊎ (slice_get u d ≡ None)
   class_or_none d = go (slice_get u d) refl
     where
       go : (o : Option ClassT) → slice_get u d ≡ o → ((c : ClassT) × (slice_get u d ≡ Some c)) ⊎ (slice_get u d ≡ None)

@@ -1,3 +1,5 @@
 pub mod SameTypes
 pub mod Substitution
 pub mod TypesKept
+pub mod Ways
+pub mod Ancestors

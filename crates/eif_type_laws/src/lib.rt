@@ -2,9 +2,20 @@
 //! clause of a function that does nothing; its proof serves other crates as a lemma.
 #![tactic(auto)]
 
-ghost use Rattle.eif_type_laws.specs.TypeLaws.{SubstitutionComposes};
+ghost use Rattle.eif_type_laws.specs.TypeLaws.{SubstitutionComposes, AncestryComposes, AncestryIsOfTheClass};
 
 /// Actuals put in after actuals are the first ones with the second put in, put in at once.
 pub fn substitution_composes()
     ensures { SubstitutionComposes }
+{}
+
+/// What a class gives an ancestor's ancestor is what the ancestor gives it, with what the class gives
+/// the ancestor put in.
+pub fn ancestry_composes()
+    ensures { AncestryComposes }
+{}
+
+/// What a class gives an ancestor are types of the class, as many as the ancestor has formals.
+pub fn ancestry_is_of_the_class()
+    ensures { AncestryIsOfTheClass }
 {}
