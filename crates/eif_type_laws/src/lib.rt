@@ -2,7 +2,7 @@
 //! clause of a function that does nothing; its proof serves other crates as a lemma.
 #![tactic(auto)]
 
-ghost use Rattle.eif_type_laws.specs.TypeLaws.{SubstitutionComposes, AncestryComposes, AncestryIsOfTheClass};
+ghost use Rattle.eif_type_laws.specs.TypeLaws.{SubstitutionComposes, AncestryComposes, AncestryIsOfTheClass, ConformanceIsReflexive, ConformanceIsTransitive, SubstitutionKeepsConformance};
 
 /// Actuals put in after actuals are the first ones with the second put in, put in at once.
 pub fn substitution_composes()
@@ -18,4 +18,19 @@ pub fn ancestry_composes()
 /// What a class gives an ancestor are types of the class, as many as the ancestor has formals.
 pub fn ancestry_is_of_the_class()
     ensures { AncestryIsOfTheClass }
+{}
+
+/// Every type but NONE conforms to itself.
+pub fn conformance_is_reflexive()
+    ensures { ConformanceIsReflexive }
+{}
+
+/// Where what classes give their ancestors is defined, conformance is transitive.
+pub fn conformance_is_transitive()
+    ensures { ConformanceIsTransitive }
+{}
+
+/// Actuals that meet the constraints keep conformance.
+pub fn substitution_keeps_conformance()
+    ensures { SubstitutionKeepsConformance }
 {}
