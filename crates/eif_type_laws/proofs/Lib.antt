@@ -5,3 +5,5 @@ pub mod Ways
 pub mod Ancestors
 pub mod ClassConformance
 pub mod Conforming
+pub mod Attachment
+pub mod Validity

@@ -2,7 +2,7 @@
 //! clause of a function that does nothing; its proof serves other crates as a lemma.
 #![tactic(auto)]
 
-ghost use Rattle.eif_type_laws.specs.TypeLaws.{SubstitutionComposes, AncestryComposes, AncestryIsOfTheClass, ConformanceIsReflexive, ConformanceIsTransitive, SubstitutionKeepsConformance};
+ghost use Rattle.eif_type_laws.specs.TypeLaws.{SubstitutionComposes, AncestryComposes, AncestryIsOfTheClass, ConformanceIsReflexive, ConformanceIsTransitive, SubstitutionKeepsConformance, SubstitutionKeepsValidity, AncestryIsValid, ConformanceKeepsAttachment, SubstitutionKeepsAttachment};
 
 /// Actuals put in after actuals are the first ones with the second put in, put in at once.
 pub fn substitution_composes()
@@ -33,4 +33,25 @@ pub fn conformance_is_transitive()
 /// Actuals that meet the constraints keep conformance.
 pub fn substitution_keeps_conformance()
     ensures { SubstitutionKeepsConformance }
+{}
+
+/// Actuals that meet the constraints, put in a valid type, give a valid type.
+pub fn substitution_keeps_validity()
+    ensures { SubstitutionKeepsValidity }
+{}
+
+/// Where parent clauses are valid, what classes give their ancestors is valid and meets the
+/// ancestors' constraints.
+pub fn ancestry_is_valid()
+    ensures { AncestryIsValid }
+{}
+
+/// What conforms to an attached type is attached.
+pub fn conformance_keeps_attachment()
+    ensures { ConformanceKeepsAttachment }
+{}
+
+/// An attached type stays attached.
+pub fn substitution_keeps_attachment()
+    ensures { SubstitutionKeepsAttachment }
 {}
