@@ -1,3 +1,4 @@
 pub mod RisingNumbers
 pub mod Unfolding
 pub mod Descending
+pub mod NoFaults

@@ -1,6 +1,6 @@
 -- What a class gives the formals of its ancestors.
-use Rattle.std.proofs.Common.{◌≡◌, ◌≢◌, ℕ, zero, suc, ◌<◌, Bool, true, false, List, [], ◌∷◌, length, Option, Some, None, refl, sym, ap, subst, ◌∙◌, ◌⊎◌, inl, inr, ⊎_elim, arith}
-use Rattle.std.proofs.lemmas.Bool.{eqb-true, eqb-false, eq-eqb, cases_Bool}
+use Rattle.std.proofs.Common.{◌≡◌, ℕ, Bool, true, false, List, length, Option, Some, None, refl, sym, ap, subst, ◌∙◌, ⊎_elim, arith}
+use Rattle.std.proofs.lemmas.Bool.{eqb-true, eqb-false, eq-eqb}
 use Rattle.std.proofs.lemmas.Option.{same_Some}
 use Rattle.std.specs.Option.{option_map_or}
 use Rattle.std.specs.Prelude.{slice_get, ◌||◌, ◌==◌, if◌then◌else◌}
@@ -8,15 +8,14 @@ use Rattle.eif_ancestry.proofs.Members.{or_right}
 use Rattle.eif_classes.specs.Ancestry.{common, derived, ways, ancestor}
 use Rattle.eif_classes.specs.Descent.{descends, any_descends}
 use Rattle.eif_classes.specs.Resolution.{own_formals, clause_actuals}
-use Rattle.eif_classes.specs.Types.{Actuals, put_in_all, formals_from}
+use Rattle.eif_classes.specs.Types.{Actuals, put_in_all}
 use Rattle.eif_lineage_laws.proofs.Descending.{lines_of, no_line, class_or_none, descends_by, descends_further, descend_apart}
-use Rattle.eif_lineage_laws.proofs.Unfolding.{parent_class, by_parents, Step, unfolded}
+use Rattle.eif_lineage_laws.proofs.Unfolding.{by_parents, Step, unfolded}
 use Rattle.eif_rules.specs.UniverseRules.{formal_count}
-use Rattle.eif_system.specs.Graph.{is_member}
-use Rattle.eif_system.specs.Inheritance.{clauses, parent_number, parent_numbers}
+use Rattle.eif_system.specs.Inheritance.{clauses, parent_number}
 use Rattle.eif_system.specs.Lineage.{line_of}
 use Rattle.eif_tree.specs.Tree.{ParentT, ClassT}
-use Rattle.eif_type_laws.specs.ClassTypes.{actual_count, AreOf, IsClauseOf, IsHierarchy, Defined}
+use Rattle.eif_type_laws.specs.ClassTypes.{actual_count, AreOf, IsHierarchy, Defined}
 use Rattle.eif_type_laws.proofs.Substitution.{put_put_all, count_put, count_formals, formals_put_all}
 use Rattle.eif_type_laws.proofs.TypesKept.{put_all_of, formals_of}
 use Rattle.eif_type_laws.proofs.Ways.{common_gives, IsClauseTo, some_clause, IsGivenBy, each_gives, no_ways, clause_member}
@@ -47,7 +46,7 @@ module _ (u : List ClassT) (order : List ℕ) (is : IsHierarchy u order) where
       ancestor u d k ≡ Some xs → IsVia d k c xs
   via d k c xs at other h =
       let e : common (ways u c (lines_of u c (clauses c)) k) ≡ Some xs =
-          ap (given_by c k) (sym other) ∙ (sym (ancestor_by d k c at) ∙ h) in
+      ap (given_by c k) (sym other) ∙ (sym (ancestor_by d k c at) ∙ h) in
       record {
         clause = some_clause u c k (clauses c) (go (any_descends (lines_of u c (clauses c)) k) refl e);
         each = each_gives u c k xs (clauses c) (common_gives _ xs e);
@@ -115,7 +114,7 @@ module _ (u : List ClassT) (order : List ℕ) (is : IsHierarchy u order) where
           let types = subst (λ n. AreOf u n (clause_actuals u c w.clause)) (sym n) p.types in
           subst (λ xs. AreOf u (formal_count u d) xs × (actual_count xs ≡ formal_count u k)) g.puts (
             put_all_of u (formal_count u d) (formal_count u w.q) (clause_actuals u c w.clause) types
-            (let e = p.count in omega arith) g.ts r.0,
+                (let e = p.count in omega arith) g.ts r.0,
             count_put (clause_actuals u c w.clause) g.ts ∙ r.1,
           )
 
@@ -153,14 +152,14 @@ module _ (u : List ClassT) (order : List ℕ) (is : IsHierarchy u order) where
             (subst (λ x. descends (line_of u k) x ≡ true) (sym (eqb-true d j e)) (ancestor_descends k j ys g)))
         below ne false e =
             let z = defined d j (descends_further u order is.ordered d k j
-                (ancestor_descends d k xs h) (ancestor_descends k j ys g)) in
+            (ancestor_descends d k xs h) (ancestor_descends k j ys g)) in
             z.1 ∙ ap Some (by_clauses z.0 (via d k c xs at ne h) (via d j c z.0 at e z.1))
 
         go : (b : Bool) → (d == k) ≡ b → ancestor u d j ≡ Some (put_in_all xs ys)
         go true e =
             let q = eqb-true d k e in
             let a : AreOf u (length c.formals) ys =
-                subst (λ n. AreOf u n ys) (ap (formal_count u) (sym q) ∙ count_is d c at) (ancestor_of k j ys g).0 in
+            subst (λ n. AreOf u n ys) (ap (formal_count u) (sym q) ∙ count_is d c at) (ancestor_of k j ys g).0 in
             ap (λ x. ancestor u x j) q
             ∙ (g ∙ ap Some (sym (ap (λ x. put_in_all x ys) (own_is d k c xs at e h)
             ∙ formals_put_all u (length c.formals) ys a)))

@@ -1,7 +1,7 @@
 -- Conformance of class types, and of formals by their constraints.
 use Rattle.std.proofs.Common.{◌≡◌, ℕ, zero, suc, ◌<◌, Bool, true, false, List, [], ◌∷◌, length, Option, Some, None, refl, sym, ap, subst, ◌∙◌, arith}
-use Rattle.std.specs.Option.{option_map, option_map_or, option_and_then}
-use Rattle.std.specs.Prelude.{slice_get, ◌==◌, is_some}
+use Rattle.std.specs.Option.{option_map, option_map_or}
+use Rattle.std.specs.Prelude.{slice_get, is_some}
 use Rattle.eif_classes.specs.Ancestry.{ancestor}
 use Rattle.eif_classes.specs.Conformance.{mark_conforms, gives, class_conforms, conforms}
 use Rattle.eif_classes.specs.Constraints.{formal_constraint, constraint}

@@ -1,11 +1,11 @@
 -- The laws of conformance.
-use Rattle.std.proofs.Common.{◌≡◌, ℕ, ◌<◌, Bool, true, false, List, length, Option, Some, None, refl, sym, ap, subst, ◌∙◌, arith}
+use Rattle.std.proofs.Common.{◌≡◌, ℕ, ◌<◌, true, List, Some, refl, sym, ap, subst, ◌∙◌, arith}
 use Rattle.std.proofs.lemmas.Bool.{eqb-true, eq-eqb}
-use Rattle.std.specs.Prelude.{◌&&◌, ◌==◌, is_some}
+use Rattle.std.specs.Prelude.{◌==◌, is_some}
 use Rattle.eif_classes.specs.Conformance.{mark_conforms, conforms}
 use Rattle.eif_classes.specs.Constraints.{constraint}
 use Rattle.eif_classes.specs.Resolution.{own_formals}
-use Rattle.eif_classes.specs.Types.{TyT, class_type, formal_type, none_type, Actuals, same_mark, marked, actual_at, put_in, put_in_all, formals_from}
+use Rattle.eif_classes.specs.Types.{TyT, class_type, formal_type, none_type, Actuals, marked, actual_at, put_in, put_in_all, formals_from}
 use Rattle.eif_lineage_laws.proofs.Unfolding.{class_within}
 use Rattle.eif_rules.specs.UniverseRules.{formal_count}
 use Rattle.eif_tree.specs.Tree.{ClassT}
@@ -13,7 +13,7 @@ use Rattle.eif_tree.specs.declared.tree.Mark.{Mark}
 use Rattle.eif_tree.specs.declared.tree.Mark.TheVariants.{Plain, Attached, Detachable}
 use Rattle.eif_type_laws.specs.ClassTypes.{IsSomething, IsOf, AreOf, constraints_of, Meet, IsHierarchy, Defined}
 use Rattle.eif_type_laws.proofs.Ancestors.{own_ancestor, count_is, composes}
-use Rattle.eif_type_laws.proofs.ClassConformance.{mark_self, mark_to_detachable, mark_further, above_detachable, has_constraint, constraint_some, constraint_closed, meets_at, meet_count, fits, opened, shut, stricter, never_none, in_class, from_detachable, both_put, IsByConstraint, by_constraint, to_class, conforms_marked}
+use Rattle.eif_type_laws.proofs.ClassConformance.{mark_self, mark_to_detachable, mark_further, above_detachable, constraint_some, constraint_closed, meets_at, meet_count, fits, opened, shut, stricter, in_class, from_detachable, both_put, by_constraint, to_class, conforms_marked}
 use Rattle.eif_type_laws.proofs.SameTypes.{and_left, and_right, and_both, mark_is}
 use Rattle.eif_type_laws.proofs.Substitution.{put_put_all, put_formals}
 use Rattle.eif_type_laws.proofs.TypesKept.{actual_of, closed_put, marked_of}

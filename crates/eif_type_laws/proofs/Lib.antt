@@ -7,3 +7,4 @@ pub mod ClassConformance
 pub mod Conforming
 pub mod Attachment
 pub mod Validity
+pub mod Defining

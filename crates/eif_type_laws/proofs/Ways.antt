@@ -1,5 +1,5 @@
 -- The ways by which a class has an ancestor.
-use Rattle.std.proofs.Common.{◌≡◌, ℕ, zero, suc, Bool, true, false, List, [], ◌∷◌, Option, Some, None, refl, sym, ap, subst, ◌∙◌}
+use Rattle.std.proofs.Common.{◌≡◌, ℕ, zero, suc, Bool, true, false, List, [], ◌∷◌, Option, Some, None, refl, sym, ap, subst}
 use Rattle.std.proofs.lemmas.Option.{same_Some}
 use Rattle.std.specs.List.{list_all, filter_map}
 use Rattle.std.specs.Option.{option_map, option_and_then}
@@ -110,13 +110,13 @@ module _ (u : List ClassT) (c : ClassT) (k : ℕ) where
       here : parent_number u c r ≡ Some q → IsGivenBy xs r q
       here e =
           let all : AllGive xs (if descends (line_of u q) k then way u c r (ancestor u q k)
-              ∷ ways u c (lines_of u c ps) k else ways u c (lines_of u c ps) k) =
-              subst (λ o. AllGive xs (if descends (line_by (line_of u) o) k
-              then way u c r (derived u (line_by (line_of u) o) k)
-              ∷ ways u c (lines_of u c ps) k else ways u c (lines_of u c ps) k)) e h in
+          ∷ ways u c (lines_of u c ps) k else ways u c (lines_of u c ps) k) =
+          subst (λ o. AllGive xs (if descends (line_by (line_of u) o) k
+          then way u c r (derived u (line_by (line_of u) o) k)
+          ∷ ways u c (lines_of u c ps) k else ways u c (lines_of u c ps) k)) e h in
           let first : AllGive xs (way u c r (ancestor u q k) ∷ ways u c (lines_of u c ps) k) =
-              subst (λ b. AllGive xs (if b then way u c r (ancestor u q k)
-              ∷ ways u c (lines_of u c ps) k else ways u c (lines_of u c ps) k)) down all in
+          subst (λ b. AllGive xs (if b then way u c r (ancestor u q k)
+          ∷ ways u c (lines_of u c ps) k else ways u c (lines_of u c ps) k)) down all in
           let g = put_gives (clause_actuals u c r) xs (ancestor u q k) first.0 in
           record { ts = g.0; gives = g.1; puts = g.2 }
 

@@ -1,10 +1,14 @@
 -- Laws of types: of substitution, of the actuals of ancestors, of conformance and of attachment.
-use Rattle.std.specs.Prelude.{◌≡◌, ℕ, true, List, Some}
+use Rattle.std.specs.Prelude.{◌≡◌, ℕ, true, List, [], Some, slice_get}
 use Rattle.eif_classes.specs.Ancestry.{ancestor}
 use Rattle.eif_classes.specs.Conformance.{conforms}
 use Rattle.eif_classes.specs.Constraints.{is_attached}
 use Rattle.eif_classes.specs.Types.{TyT, Actuals, put_in, put_in_all}
+use Rattle.eif_feature_rules.specs.DerivationRules.{derivation_faults}
 use Rattle.eif_rules.specs.UniverseRules.{formal_count}
+use Rattle.eif_system.specs.Graph.{IsOrder}
+use Rattle.eif_system.specs.Inheritance.{graph_of}
+use Rattle.eif_system.specs.Lineage.{line_of}
 use Rattle.eif_tree.specs.Tree.{ClassT}
 use Rattle.eif_type_laws.specs.ClassTypes.{IsSomething, actual_count, IsOf, AreOf, constraints_of, Meet, IsValid, AreValid, EachClause, IsValidClause, IsHierarchy, Defined}
 
@@ -33,6 +37,12 @@ abbrev pub AncestryIsValid : Type 0
 AncestryIsValid =
     (u : List ClassT) (order : List ℕ) → IsHierarchy u order → Defined u → EachClause u (IsValidClause u) →
     (d k : ℕ) (xs : Actuals) → ancestor u d k ≡ Some xs → Meet u d xs (constraints_of u k) × AreValid u d xs
+
+-- where no class breaks a rule of derivations all of them are defined
+abbrev pub AncestryIsDefined : Type 0
+AncestryIsDefined =
+    (u : List ClassT) (order : List ℕ) → IsOrder (graph_of u) order →
+    ((d : ℕ) (c : ClassT) → slice_get u d ≡ Some c → derivation_faults u (line_of u d) ≡ []) → Defined u
 
 -- ---- conformance
 

@@ -2,7 +2,7 @@
 //! clause of a function that does nothing; its proof serves other crates as a lemma.
 #![tactic(auto)]
 
-ghost use Rattle.eif_type_laws.specs.TypeLaws.{SubstitutionComposes, AncestryComposes, AncestryIsOfTheClass, ConformanceIsReflexive, ConformanceIsTransitive, SubstitutionKeepsConformance, SubstitutionKeepsValidity, AncestryIsValid, ConformanceKeepsAttachment, SubstitutionKeepsAttachment};
+ghost use Rattle.eif_type_laws.specs.TypeLaws.{SubstitutionComposes, AncestryComposes, AncestryIsOfTheClass, ConformanceIsReflexive, ConformanceIsTransitive, SubstitutionKeepsConformance, SubstitutionKeepsValidity, AncestryIsValid, AncestryIsDefined, ConformanceKeepsAttachment, SubstitutionKeepsAttachment};
 
 /// Actuals put in after actuals are the first ones with the second put in, put in at once.
 pub fn substitution_composes()
@@ -54,4 +54,9 @@ pub fn conformance_keeps_attachment()
 /// An attached type stays attached.
 pub fn substitution_keeps_attachment()
     ensures { SubstitutionKeepsAttachment }
+{}
+
+/// Where no class breaks a rule of derivations, what classes give their ancestors is defined.
+pub fn ancestry_is_defined()
+    ensures { AncestryIsDefined }
 {}
