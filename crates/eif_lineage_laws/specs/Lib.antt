@@ -1,1 +1,2 @@
 pub mod Lineages
+pub mod Orders

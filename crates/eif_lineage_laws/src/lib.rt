@@ -3,6 +3,7 @@
 #![tactic(auto)]
 
 ghost use Rattle.eif_lineage_laws.specs.Lineages.{LinesUnfold, DescentIsReaching, AncestorsAreListed, AncestorsStandBefore};
+ghost use Rattle.eif_lineage_laws.specs.Orders.{OrderExists};
 
 /// The line of a class stands over the lines of the classes of its parent clauses.
 pub fn lines_unfold()
@@ -19,4 +20,9 @@ pub fn descent_is_reaching()
 pub fn ancestors_are_listed()
     ensures listed { AncestorsAreListed }
     ensures before { AncestorsStandBefore }
+{}
+
+/// Classes of which none inherits from itself stand in some order of inheritance.
+pub fn order_exists()
+    ensures { OrderExists }
 {}
