@@ -17,7 +17,7 @@ use Rattle.eif_tree.specs.Tree.{ParentT, ClassT}
 use Rattle.eif_lineage_laws.proofs.RisingNumbers.{member_in_order, in_order_increasing}
 use Rattle.eif_lineage_laws.proofs.Unfolding.{first_number, later_number, parents_at, class_at, place_at, parent_class, by_parents, Step, unfolded}
 
-number_is : (o : Option ℕ) (k : ℕ) (ks : List ℕ) → is_member k (cons_option o ks) ≡ true →
+pub number_is : (o : Option ℕ) (k : ℕ) (ks : List ℕ) → is_member k (cons_option o ks) ≡ true →
     (o ≡ Some k) ⊎ (is_member k ks ≡ true)
 number_is None k ks m = inr m
 number_is (Some j) k ks m = or_cases _ (j == k) (is_member k ks) m (λ t. inl (ap Some (eqb-true j k t))) (λ n. inr n)

@@ -3,3 +3,7 @@ pub mod Unfolding
 pub mod Descending
 pub mod NoFaults
 pub mod Ordering
+pub mod Written
+pub mod Numbers
+pub mod KernelClasses
+pub mod WholeClasses

@@ -6,11 +6,11 @@ use Rattle.std.proofs.lemmas.Map.Keys.{IsDistinct-push, IsDistinct-from_apart}
 use Rattle.std.proofs.lemmas.Map.Steps.{length-le_from_distinct_below}
 use Rattle.std.proofs.lemmas.Option.{slice_get_within}
 use Rattle.std.specs.List.{IsDistinct}
-use Rattle.std.specs.Prelude.{slice_get, ◌||◌, ◌==◌}
+use Rattle.std.specs.Prelude.{slice_get, ◌==◌}
 use Rattle.eif_ancestry.proofs.Climbing.{climb_more}
 use Rattle.eif_ancestry.proofs.Members.{or_cases, or_left, or_right, same_member, member_at, place_of, member_one_more, place_kept, place_before, one_place, is_false}
 use Rattle.eif_ancestry.proofs.Rows.{length_push}
-use Rattle.eif_system.specs.Graph.{is_member, parents_of, Reaches, IsClosed, HasNoCycle, IsListOf, IsOrder}
+use Rattle.eif_system.specs.Graph.{is_member, parents_of, Reaches, IsClosed, HasNoCycle, IsOrder}
 
 last_at : (xs : List ℕ) (x i a : ℕ) → length xs ≤ i → slice_get (xs ++ x ∷ []) i ≡ Some a → (i ≡ length xs) × (x ≡ a)
 last_at [] x zero a h e = (refl, (let q : x ≡ a = cc in q))
@@ -106,7 +106,7 @@ module _ (g : List (List ℕ)) (closed : IsClosed g) (no : HasNoCycle g) where
       go (inr all) further = record { d = d; class = are.below d here; left = left; ready = all }
       go (inl r) further =
           let fresh : is_member r.0 (seen ++ d ∷ []) ≡ false =
-              is_false (is_member r.0 (seen ++ d ∷ [])) (λ m. no d r.0 r.1 (lead r.0 m)) in
+          is_false (is_member r.0 (seen ++ d ∷ [])) (λ m. no d r.0 r.1 (lead r.0 m)) in
           let long = length_push seen d in
           further r.0
           (below_more (length g) (seen ++ d ∷ []) r.0 are (closed d r.0 r.1) fresh)

@@ -1,2 +1,3 @@
 pub mod Lineages
 pub mod Orders
+pub mod Universes

@@ -4,6 +4,7 @@
 
 ghost use Rattle.eif_lineage_laws.specs.Lineages.{LinesUnfold, DescentIsReaching, AncestorsAreListed, AncestorsStandBefore};
 ghost use Rattle.eif_lineage_laws.specs.Orders.{OrderExists};
+ghost use Rattle.eif_lineage_laws.specs.Universes.{NamesDiffer, WrittenTypesAreNamed, ParentsAreClasses, ConstraintsNameNoFormal, UniverseHasOrder};
 
 /// The line of a class stands over the lines of the classes of its parent clauses.
 pub fn lines_unfold()
@@ -25,4 +26,16 @@ pub fn ancestors_are_listed()
 /// Classes of which none inherits from itself stand in some order of inheritance.
 pub fn order_exists()
     ensures { OrderExists }
+{}
+
+/// Where no rule of the universe is broken, its classes differ in their names, each written type has
+/// the name of a formal or of a class and as many actuals as that takes, each parent is a class, no
+/// constraint names a formal, and the classes stand in some order of inheritance. That goes for the
+/// kernel's classes too.
+pub fn universe_is_whole()
+    ensures names { NamesDiffer }
+    ensures types { WrittenTypesAreNamed }
+    ensures parents { ParentsAreClasses }
+    ensures constraints { ConstraintsNameNoFormal }
+    ensures order { UniverseHasOrder }
 {}
