@@ -30,6 +30,10 @@ pub all_then : {A : Type 0} (P Q : A → Type 0) (xs : List A) → ((x : A) → 
 all_then P Q [] f h = tt
 all_then P Q (x ∷ xs) f h = (f x h.0, all_then P Q xs f h.1)
 
+pub all_append : {A : Type 0} (P : A → Type 0) (xs ys : List A) → AllOf P xs → AllOf P ys → AllOf P (xs ++ ys)
+all_append P [] ys h g = g
+all_append P (x ∷ xs) ys h g = (h.0, all_append P xs ys h.1 g)
+
 pub all_left : {A : Type 0} (P : A → Type 0) (xs ys : List A) → AllOf P (xs ++ ys) → AllOf P xs
 all_left P [] ys h = tt
 all_left P (x ∷ xs) ys h = (h.0, all_left P xs ys h.1)

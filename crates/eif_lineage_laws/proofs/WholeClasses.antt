@@ -15,7 +15,7 @@ use Rattle.eif_rules.specs.FaultForms.{IsNone, fault_at, fault_in}
 use Rattle.eif_rules.specs.UniverseRules.{unknown_class, formal_count, wrong_count, wrong_mark, nested_type_faults, long_type, written_type_faults, formal_names_class, repeated_formal, formal_in_constraint, numbered_formal_faults, formal_parent, kernel_parent, parent_faults, many_parents, many_formals, text_faults, OwnBroken, repeated_class, ClassBroken, UniverseBroken}
 use Rattle.eif_system.specs.Graph.{is_member, Climbs, Reaches, HasNoCycle, IsOrder}
 use Rattle.eif_system.specs.Inheritance.{clauses, any_clause, parent_number, graph_of}
-use Rattle.eif_system.specs.Kernel.{any_name, kernel_count, character_class, string_class, array_class}
+use Rattle.eif_system.specs.Kernel.{any_name, any_class, kernel_count, character_class, string_class, array_class}
 use Rattle.eif_system.specs.Universe.{universe, class_number, is_formal}
 use Rattle.eif_system.specs.WrittenTypes.{Written, written, written_types, present, nested, actuals, type_name, type_name_place}
 use Rattle.eif_tree.specs.Tree.{TypeT, FormalT, ParentT, ClassT}
@@ -210,11 +210,22 @@ module _ (given : List ClassT) (root : Root) (never : IsNone (UniverseBroken giv
   types_named d c at = all_named u c (of_each given (λ d c. flat_map (written_type_faults u c) (written_types c) ≡ [])
       (kernel_types given) (λ i c at. no_type u c (no_text_fault i c at)) d c at)
 
+  -- where ANY is the parent
+  pub any_named : (d : ℕ) (c : ClassT) → slice_get u d ≡ Some c → NamesClass u c any_clause.parent 0
+  any_named = of_each given (λ d c. NamesClass u c any_clause.parent 0) record {
+    any = any_parent given any_class refl;
+    integer = any_parent given integer_class refl;
+    boolean = any_parent given boolean_class refl;
+    character = any_parent given character_class refl;
+    string = any_parent given string_class refl;
+    array = any_parent given array_class refl;
+  } (λ i c at. any_parent given c (class_no_formal u c (no_text_fault i c at) any_name 0 (any_first given)))
+
   pub parents_named : (d : ℕ) (c : ClassT) → slice_get u d ≡ Some c → NameClasses given c
   parents_named = of_each given (λ d c. NameClasses given c) (kernel_parents given) (λ i c at.
-      let none = no_text_fault i c at in
-      let any = any_parent given c (class_no_formal u c none any_name 0 (any_first given)) in
-      each_clause (λ p. (k : ℕ) × NamesClass u c p.parent k) c (0, any) (written_parents u c none))
+      each_clause (λ p. (k : ℕ) × NamesClass u c p.parent k) c
+      (0, any_named (kernel_count + i) c (given_at given i c at))
+      (written_parents u c (no_text_fault i c at)))
 
   pub constraints_named : (d : ℕ) (c : ClassT) → slice_get u d ≡ Some c → NameNoFormal c
   constraints_named = of_each given (λ d c. NameNoFormal c) kernel_constraints

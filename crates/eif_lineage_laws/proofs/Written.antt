@@ -5,10 +5,23 @@ use Rattle.std.specs.Prelude.{if◌then◌else◌}
 use Rattle.std.specs.Str.{bytes_eq}
 use Rattle.eif_system.specs.Inheritance.{any_clause, clauses}
 use Rattle.eif_system.specs.Kernel.{any_name}
-use Rattle.eif_system.specs.WrittenTypes.{Written, written, written_in, written_types, invariant_name, types_of_expressions, present, nested}
+use Rattle.eif_system.specs.WrittenTypes.{Written, written, written_in, written_types, invariant_name, types_of_expressions, present, nested, nested_in}
 use Rattle.eif_tree.specs.Members.{declarations}
-use Rattle.eif_tree.specs.Tree.{TypeT, type_at, ParentT, ClassT}
-use Rattle.eif_lineage_laws.proofs.NoFaults.{AllOf, all_left, all_right, all_map}
+use Rattle.eif_tree.specs.Tree.{TypeT, type_at, Types, no_types, and_type, ParentT, ClassT}
+use Rattle.eif_lineage_laws.proofs.NoFaults.{AllOf, all_append, all_left, all_right, all_map}
+
+-- what holds of a type and all in it holds so of each of them
+mutual
+  pub nested_again : (P : TypeT → Type 0) (t : TypeT) → AllOf P (nested t) → AllOf (λ s. AllOf P (nested s)) (nested t)
+  nested_again P (type_at p q m n ts) h = (h, nested_in_again P ts h.1)
+
+  nested_in_again : (P : TypeT → Type 0) (ts : Types) → AllOf P (nested_in ts) →
+      AllOf (λ s. AllOf P (nested s)) (nested_in ts)
+  nested_in_again P no_types h = tt
+  nested_in_again P (and_type t ts) h =
+      all_append (λ s. AllOf P (nested s)) (nested t) (nested_in ts)
+      (nested_again P t (all_left P (nested t) (nested_in ts) h))
+      (nested_in_again P ts (all_right P (nested t) (nested_in ts) h))
 
 pub nested_first : (P : TypeT → Type 0) (t : TypeT) → AllOf P (nested t) → P t
 nested_first P (type_at p q m n ts) h = h.0

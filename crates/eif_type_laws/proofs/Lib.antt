@@ -8,3 +8,5 @@ pub mod Conforming
 pub mod Attachment
 pub mod Validity
 pub mod Defining
+pub mod Resolving
+pub mod WholeUniverses

@@ -1,2 +1,3 @@
 pub mod ClassTypes
 pub mod TypeLaws
+pub mod WholeUniverses

@@ -3,6 +3,7 @@
 #![tactic(auto)]
 
 ghost use Rattle.eif_type_laws.specs.TypeLaws.{SubstitutionComposes, AncestryComposes, AncestryIsOfTheClass, ConformanceIsReflexive, ConformanceIsTransitive, SubstitutionKeepsConformance, SubstitutionKeepsValidity, AncestryIsValid, AncestryIsDefined, ConformanceKeepsAttachment, SubstitutionKeepsAttachment};
+ghost use Rattle.eif_type_laws.specs.WholeUniverses.{UniverseIsHierarchy, WrittenTypesAreOfTheClass};
 
 /// Actuals put in after actuals are the first ones with the second put in, put in at once.
 pub fn substitution_composes()
@@ -59,4 +60,11 @@ pub fn substitution_keeps_attachment()
 /// Where no class breaks a rule of derivations, what classes give their ancestors is defined.
 pub fn ancestry_is_defined()
     ensures { AncestryIsDefined }
+{}
+
+/// Where no rule of the universe is broken, its classes are a hierarchy in any order of inheritance,
+/// and each written type means a type of its class.
+pub fn universe_is_hierarchy()
+    ensures hierarchy { UniverseIsHierarchy }
+    ensures types { WrittenTypesAreOfTheClass }
 {}
