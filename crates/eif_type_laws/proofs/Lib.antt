@@ -10,3 +10,4 @@ pub mod Validity
 pub mod Defining
 pub mod Resolving
 pub mod WholeUniverses
+pub mod ValidUniverses

@@ -1,20 +1,18 @@
 -- What written types mean, where each has the name of a formal or of a class and as many actuals as that takes.
-use Rattle.std.proofs.Common.{◌≡◌, ℕ, zero, suc, ◌+◌, ◌<◌, Bool, true, false, ◌⊎◌, inl, inr, List, [], ◌∷◌, ◌++◌, length, Option, Some, None, refl, sym, ap, subst, ◌∙◌, arith}
+use Rattle.std.proofs.Common.{◌≡◌, ℕ, suc, ◌+◌, ◌<◌, Bool, true, false, ◌⊎◌, inl, inr, List, [], ◌∷◌, length, Some, None, refl, sym, ap, subst, ◌∙◌, arith}
 use Rattle.std.proofs.lemmas.Option.{same_Some}
 use Rattle.std.specs.List.{list_any, position_from}
 use Rattle.std.specs.Prelude.{◌||◌, if◌then◌else◌}
 use Rattle.std.specs.Str.{bytes_eq}
 use Rattle.eif_classes.specs.Resolution.{formal_number, class_mark, type_of_class, type_denoted, resolved, all_resolved, actuals_in, clause_actuals}
-use Rattle.eif_classes.specs.Types.{TyT, class_type, formal_type, none_type, Actuals, no_actuals, and_actual}
+use Rattle.eif_classes.specs.Types.{class_type, formal_type, Actuals}
 use Rattle.eif_lineage_laws.proofs.Numbers.{class_number_within}
-use Rattle.eif_lineage_laws.proofs.NoFaults.{AllOf, all_then, all_left, all_right}
+use Rattle.eif_lineage_laws.proofs.NoFaults.{AllOf, all_left, all_right}
 use Rattle.eif_lineage_laws.specs.Universes.{NamesFormal, NamesClass, IsNamed}
-use Rattle.eif_rules.specs.UniverseRules.{formal_count}
 use Rattle.eif_system.specs.Inheritance.{parent_number}
 use Rattle.eif_system.specs.Universe.{class_number, is_formal}
 use Rattle.eif_system.specs.WrittenTypes.{type_name, type_mark, type_list, actuals, nested, nested_in}
 use Rattle.eif_tree.specs.Tree.{TypeT, type_at, Types, no_types, and_type, FormalT, ParentT, ClassT}
-use Rattle.eif_tree.specs.declared.tree.Mark.{Mark}
 use Rattle.eif_type_laws.specs.ClassTypes.{IsSomething, actual_count, IsOf, AreOf}
 
 -- ---- the place of a formal
@@ -99,11 +97,14 @@ module _ (u : List ClassT) (c : ClassT) where
         here : IsWithin n (type_at p q m name ts) → AreOf u n (all_resolved u c ts) →
             IsSomething (resolved u c (type_at p q m name ts)) × IsOf u n (resolved u c (type_at p q m name ts))
         here (inl i) rest = subst (λ t. IsSomething t × IsOf u n t) (sym i.1) (tt, i.2)
-        here (inr k) rest = subst (λ t. IsSomething t × IsOf u n t) (sym (class_meant (type_at p q m name ts) k.0 k.1)) (tt, (
-          class_number_within u name k.0 k.1.number,
-          count_resolved ts ∙ k.1.count,
-          rest,
-        ))
+        here (inr k) rest = subst (λ t. IsSomething t × IsOf u n t) (sym (class_meant (type_at p q m name ts) k.0 k.1)) (
+          tt,
+          (
+            class_number_within u name k.0 k.1.number,
+            count_resolved ts ∙ k.1.count,
+            rest,
+          ),
+        )
 
     pub all_meant_of : (n : ℕ) (ts : Types) → AllOf (IsWithin n) (nested_in ts) → AreOf u n (all_resolved u c ts)
     all_meant_of n no_types h = tt

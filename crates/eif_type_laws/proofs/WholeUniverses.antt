@@ -1,39 +1,27 @@
 -- The classes of a universe without a breach are a hierarchy of valid types.
-use Rattle.std.proofs.Common.{◌≡◌, ℕ, zero, suc, ◌+◌, ◌<◌, Bool, true, false, ◌⊎◌, inl, inr, List, [], ◌∷◌, ◌++◌, length, map, Option, Some, None, refl, sym, ap, subst, ◌∙◌, arith}
-use Rattle.std.proofs.lemmas.Option.{same_Some}
-use Rattle.std.specs.List.{flat_map, filter_map, enumerate_from, zip}
-use Rattle.std.specs.Option.{option_map, option_map_or, option_and_then}
-use Rattle.std.specs.Prelude.{slice_get, not, if◌then◌else◌}
-use Rattle.std.specs.Str.{bytes_eq}
-use Rattle.eif_base.specs.declared.code.Code.TheVariants as code
-use Rattle.eif_base.specs.declared.fault.Fault.{Fault}
+use Rattle.std.proofs.Common.{◌≡◌, ℕ, false, inr, List, [], ◌∷◌, length, Option, Some, None, refl, sym, ap, subst, ◌∙◌}
+use Rattle.std.specs.List.{flat_map}
+use Rattle.std.specs.Option.{option_map_or}
+use Rattle.std.specs.Prelude.{slice_get}
 use Rattle.eif_base.specs.declared.root.Root.{Root}
-use Rattle.eif_classes.specs.Conformance.{conforms}
-use Rattle.eif_classes.specs.Constraints.{detachable_any, formal_constraint}
-use Rattle.eif_classes.specs.Resolution.{class_mark, resolved, all_resolved, clause_actuals}
-use Rattle.eif_classes.specs.Types.{TyT, class_type, formal_type, none_type, Actuals, no_actuals, and_actual}
-use Rattle.eif_feature_rules.specs.DerivationRules.{derivation_faults, wrong_actual, class_named, actual_faults_by, actual_faults, written_actual_faults}
-use Rattle.eif_feature_rules.specs.FeaturePhases.{class_derivation_faults, each_given, DerivationsBroken}
-use Rattle.eif_lineage_laws.specs.Lineages.{line_over}
+use Rattle.eif_classes.specs.Constraints.{detachable_any}
+use Rattle.eif_classes.specs.Resolution.{resolved}
 use Rattle.eif_lineage_laws.specs.Universes.{NamesClass, IsNamed}
-use Rattle.eif_lineage_laws.proofs.KernelClasses.{OfKernel, of_each, given_at, any_first, any_has_no_formal, integer_class, boolean_class}
-use Rattle.eif_lineage_laws.proofs.Written.{each_clause, nested_first, nested_again, among_parents, among_constraints}
-use Rattle.eif_lineage_laws.proofs.Numbers.{class_number_within, parent_within}
-use Rattle.eif_lineage_laws.proofs.NoFaults.{none_left, none_right, AllOf, all_at, all_then, all_left, all_right, all_flat, all_both, all_numbers, none_of_each, none_where, none_in}
-use Rattle.eif_lineage_laws.proofs.Unfolding.{unfolded}
-use Rattle.eif_lineage_laws.proofs.WholeClasses.{AreNamed, any_named, types_named, parents_named, constraints_named, has_order}
-use Rattle.eif_rules.specs.FaultForms.{IsNone, fault_in}
+use Rattle.eif_lineage_laws.proofs.KernelClasses.{any_first, any_has_no_formal}
+use Rattle.eif_lineage_laws.proofs.Written.{each_clause, nested_again, among_parents, among_constraints}
+use Rattle.eif_lineage_laws.proofs.Numbers.{class_number_within}
+use Rattle.eif_lineage_laws.proofs.NoFaults.{AllOf, all_at, all_then, all_left, all_flat, all_both}
+use Rattle.eif_lineage_laws.proofs.WholeClasses.{AreNamed, any_named, types_named, parents_named, constraints_named}
+use Rattle.eif_rules.specs.FaultForms.{IsNone}
 use Rattle.eif_rules.specs.UniverseRules.{formal_count, UniverseBroken}
 use Rattle.eif_system.specs.Graph.{IsOrder}
-use Rattle.eif_system.specs.Inheritance.{any_clause, clauses, parent_number, graph_of}
-use Rattle.eif_system.specs.Kernel.{kernel, kernel_count, any_name, any_class, character_class, string_class, array_class}
-use Rattle.eif_system.specs.Lineage.{Line, line, Ups, top, up, ups_by, line_by, line_of}
-use Rattle.eif_system.specs.Universe.{universe, class_number, class_denoted, is_formal}
-use Rattle.eif_system.specs.WrittenTypes.{Written, written_types, present, nested, nested_in, actuals, type_list, type_mark, type_name, type_place}
-use Rattle.eif_tree.specs.Tree.{TypeT, type_at, Types, no_types, and_type, FormalT, ParentT, ClassT}
-use Rattle.eif_type_laws.specs.ClassTypes.{IsSomething, actual_count, IsOf, AreOf, constraints_by, constraints_of, Meet, IsValid, AreValid, EachClause, IsClauseOf, IsValidClause, IsHierarchy, Defined}
-use Rattle.eif_type_laws.proofs.Defining.{all_defined}
-use Rattle.eif_type_laws.proofs.Resolving.{all_meant, class_meant, formal_meant, count_meant, IsWithin, named_within, named_closed, meant_of, all_meant_of, parent_meant}
+use Rattle.eif_system.specs.Inheritance.{clauses, graph_of}
+use Rattle.eif_system.specs.Kernel.{any_name}
+use Rattle.eif_system.specs.Universe.{universe, is_formal}
+use Rattle.eif_system.specs.WrittenTypes.{Written, written_types, present, nested, type_name}
+use Rattle.eif_tree.specs.Tree.{TypeT, type_at, FormalT, ClassT}
+use Rattle.eif_type_laws.specs.ClassTypes.{IsSomething, actual_count, IsOf, AreOf, constraints_by, constraints_of, EachClause, IsClauseOf, IsHierarchy}
+use Rattle.eif_type_laws.proofs.Resolving.{all_meant, count_meant, IsWithin, named_within, named_closed, meant_of, all_meant_of, parent_meant}
 
 -- ---- the hierarchy
 
@@ -107,6 +95,6 @@ module _ (given : List ClassT) (root : Root) (never : IsNone (UniverseBroken giv
   written_of d c at i w among j t inside =
       let all = all_at (AreNamed u c) (written_types c) i w (types_named given root never d c at) among in
       let here = all_at (λ t. AllOf (IsNamed u c) (nested t)) (nested w.type_tree) j t
-          (nested_again (IsNamed u c) w.type_tree all) inside in
+      (nested_again (IsNamed u c) w.type_tree all) inside in
       meant_of u c (length c.formals) t
       (all_then (IsNamed u c) (IsWithin u c (length c.formals)) (nested t) (named_within u c) here)

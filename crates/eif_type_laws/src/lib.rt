@@ -3,7 +3,7 @@
 #![tactic(auto)]
 
 ghost use Rattle.eif_type_laws.specs.TypeLaws.{SubstitutionComposes, AncestryComposes, AncestryIsOfTheClass, ConformanceIsReflexive, ConformanceIsTransitive, SubstitutionKeepsConformance, SubstitutionKeepsValidity, AncestryIsValid, AncestryIsDefined, ConformanceKeepsAttachment, SubstitutionKeepsAttachment};
-ghost use Rattle.eif_type_laws.specs.WholeUniverses.{UniverseIsHierarchy, WrittenTypesAreOfTheClass};
+ghost use Rattle.eif_type_laws.specs.WholeUniverses.{UniverseIsHierarchy, WrittenTypesAreOfTheClass, UniverseIsDefined, ClausesAreValid, WrittenTypesAreValid};
 
 /// Actuals put in after actuals are the first ones with the second put in, put in at once.
 pub fn substitution_composes()
@@ -67,4 +67,12 @@ pub fn ancestry_is_defined()
 pub fn universe_is_hierarchy()
     ensures hierarchy { UniverseIsHierarchy }
     ensures types { WrittenTypesAreOfTheClass }
+{}
+
+/// Where no rule of the universe and none of derivations is broken, what classes give their ancestors
+/// is defined, and parent clauses and written types are valid.
+pub fn universe_is_valid()
+    ensures defined { UniverseIsDefined }
+    ensures clauses { ClausesAreValid }
+    ensures types { WrittenTypesAreValid }
 {}
