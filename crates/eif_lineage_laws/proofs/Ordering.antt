@@ -119,8 +119,10 @@ module _ (g : List (List ℕ)) (closed : IsClosed g) (no : HasNoCycle g) where
   next : (xs : List ℕ) (d : ℕ) → d < length g → is_member d xs ≡ false → IsNext xs
   next xs d h left = climb xs (length g) [] d record {
     distinct = IsDistinct-from_apart eqb (d ∷ []) (λ i j x h k. absurd (omega arith));
-    below = λ a m. or_cases _ (d == a) false m (λ t. subst (λ a. a < length g) (eqb-true d a t) h) (λ n. let z : false ≡ true = n in cc);
-  } (λ a m. or_cases _ (d == a) false m (λ t. ([], sym (eqb-true d a t))) (λ n. let z : false ≡ true = n in cc)) (omega arith) left
+    below = λ a m. or_cases _ (d == a) false m (λ t. subst (λ a. a < length g) (eqb-true d a t) h)
+        (λ n. let z : false ≡ true = n in cc);
+  } (λ a m. or_cases _ (d == a) false m (λ t. ([], sym (eqb-true d a t))) (λ n. let z : false ≡ true = n in cc))
+      (omega arith) left
 
   more : (xs : List ℕ) → IsPart xs → (n : IsNext xs) → IsPart (xs ++ n.d ∷ [])
   more xs is n = record {
@@ -164,7 +166,8 @@ module _ (g : List (List ℕ)) (closed : IsClosed g) (no : HasNoCycle g) where
   build (suc b) xs is enough = go (missing xs (length g)) (λ n. build b (xs ++ n ∷ []))
     where
       go : ((d : ℕ) × (d < length g) × (is_member d xs ≡ false)) ⊎ ((d : ℕ) → d < length g → is_member d xs ≡ true) →
-          ((n : ℕ) → IsPart (xs ++ n ∷ []) → length g ≤ length (xs ++ n ∷ []) + b → (order : List ℕ) × IsOrder g order) →
+          ((n : ℕ) → IsPart (xs ++ n ∷ []) → length g ≤ length (xs ++ n ∷ []) + b →
+          (order : List ℕ) × IsOrder g order) →
           (order : List ℕ) × IsOrder g order
       go (inr all) rest = (xs, whole xs is all)
       go (inl r) rest =

@@ -264,7 +264,8 @@ module _ (given : List ClassT) (root : Root) (never : IsNone (UniverseBroken giv
     character = (any_away 2 character_class, tt);
     string = (any_away 3 string_class, tt);
     array = (any_away 4 array_class, tt);
-  } (λ i c at. each_clause (LeadsAway (kernel_count + i) c) c (far i c) (all_from (LeadsAway (kernel_count + i) c) c.parents
+  } (λ i c at. each_clause (LeadsAway (kernel_count + i) c) c (far i c)
+      (all_from (LeadsAway (kernel_count + i) c) c.parents
       (λ j p among k names r.
       let f : Fault = fault_at c code.Vhpr 1 (type_name_place p.parent) (type_name p.parent) in
       (fine i c at).own f (inr (inl record { i = j; x = p; at = among; judged = (k, names, r, refl) })))))

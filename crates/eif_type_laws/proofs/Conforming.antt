@@ -136,8 +136,10 @@ module _ (u : List ClassT) (order : List ℕ) (is : IsHierarchy u order) where
 
     -- ---- substitution
 
-    module _ (c d : ℕ) (xs : Actuals) (are : AreOf u (formal_count u d) xs) (meet : Meet u d xs (constraints_of u c)) where
-      actual_is : (i : ℕ) → i < formal_count u c → IsSomething (actual_at xs i) × IsOf u (formal_count u d) (actual_at xs i)
+    module _ (c d : ℕ) (xs : Actuals) (are : AreOf u (formal_count u d) xs)
+        (meet : Meet u d xs (constraints_of u c)) where
+      actual_is : (i : ℕ) → i < formal_count u c →
+          IsSomething (actual_at xs i) × IsOf u (formal_count u d) (actual_at xs i)
       actual_is i h = actual_of u (formal_count u d) xs i are (let n = meet_count u c d xs meet in omega arith)
 
       -- a formal that conforms to a class type
@@ -156,7 +158,8 @@ module _ (u : List ClassT) (order : List ℕ) (is : IsHierarchy u order) where
           let f : k < 0 = (constraint_closed u c i (formal_type k o) (is.constraints c) e).1 in absurd (omega arith)
       put_formal i m lt j n ys none_type e h = absurd (constraint_closed u c i none_type (is.constraints c) e).0
 
-      void_fits : (t : TyT) → IsSomething t → IsOf u (formal_count u d) t → conforms u d none_type (marked Detachable t) ≡ true
+      void_fits : (t : TyT) → IsSomething t → IsOf u (formal_count u d) t →
+          conforms u d none_type (marked Detachable t) ≡ true
       void_fits (class_type k m ts) s h = refl
       void_fits (formal_type i m) s h = and_both _ _ (constraint_some u d i h) refl
       void_fits none_type s h = absurd s

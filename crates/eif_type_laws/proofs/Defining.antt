@@ -70,18 +70,21 @@ one_list c name w ws given h =
     (f.0, ap (λ b. if b then option_and_then if_small w.actuals else None) (all_alike w.actuals ws same) ∙ f.1)
   where
     large : option_to_list (option_map (fault_at_way c code.Xlim 6 name) (find is_large (w ∷ ws))) ≡ []
-    large = ap (λ b. if b then option_to_list (option_map (fault_at_way c code.Xlim 6 name) (find is_large (w ∷ ws))) else [])
+    large = ap (λ b. if b then option_to_list (option_map (fault_at_way c code.Xlim 6 name) (find is_large (w ∷ ws)))
+        else [])
         (sym given)
         ∙ none_left (large_derivation c name (w ∷ ws)) (differing_derivation c name (w ∷ ws)) h
 
     none_large : list_any is_large (w ∷ ws) ≡ false
-    none_large = none_found is_large (w ∷ ws) (none_mapped (fault_at_way c code.Xlim 6 name) (find is_large (w ∷ ws)) large)
+    none_large = none_found is_large (w ∷ ws)
+        (none_mapped (fault_at_way c code.Xlim 6 name) (find is_large (w ∷ ws)) large)
 
     judged : (are_defined (w ∷ ws) && not (list_any is_large (w ∷ ws))) ≡ true
     judged = and_both _ _ given (ap not none_large)
 
     differ : option_to_list (option_map (fault_at_way c code.Xanc 1 name) (differing (w ∷ ws))) ≡ []
-    differ = ap (λ b. if b then option_to_list (option_map (fault_at_way c code.Xanc 1 name) (differing (w ∷ ws))) else [])
+    differ = ap (λ b. if b then option_to_list (option_map (fault_at_way c code.Xanc 1 name) (differing (w ∷ ws)))
+        else [])
         (sym judged)
         ∙ none_right (large_derivation c name (w ∷ ws)) (differing_derivation c name (w ∷ ws)) h
 
@@ -101,7 +104,8 @@ module _ (u : List ClassT) (c : ClassT) (k : ℕ) where
       first (parent_number u c p) refl
       (ways_defined ps (λ q m. f q (later_number (parent_number u c p) q (filter_map (parent_number u c) ps) m)))
     where
-      some_put : (o : Option Actuals) → is_some o ≡ true → is_some (option_map (put_in_all (clause_actuals u c p)) o) ≡ true
+      some_put : (o : Option Actuals) → is_some o ≡ true →
+          is_some (option_map (put_in_all (clause_actuals u c p)) o) ≡ true
       some_put None h = cc
       some_put (Some xs) h = refl
 
@@ -143,7 +147,8 @@ module _ (u : List ClassT) (order : List ℕ) (is : IsOrder (graph_of u) order)
   has : Step u order is Has
   has d c at parents k h = go (d == k) refl (sym (descends_by u order is d k c at) ∙ h)
     where
-      unfold_derived : ancestor u d k ≡ (if d == k then Some (own_formals c) else common (ways u c (lines_of u c (clauses c)) k))
+      unfold_derived : ancestor u d k
+          ≡ (if d == k then Some (own_formals c) else common (ways u c (lines_of u c (clauses c)) k))
       unfold_derived = ap (λ l. derived u l k) (unfolded u order is d c at)
 
       -- of each listed ancestor there is no fault
@@ -157,7 +162,8 @@ module _ (u : List ClassT) (order : List ℕ) (is : IsOrder (graph_of u) order)
           (none_of_each (λ k. ancestor_faults c (name_of u k) (ways u c (lines_of u c (clauses c)) k)) _ none)
           (sym (ap (λ l. slice_get (above l) i.0) l) ∙ i.1)
 
-      found : (ws : List Way) → ways u c (lines_of u c (clauses c)) k ≡ ws → (w : Way) (rest : List Way) → ws ≡ w ∷ rest →
+      found : (ws : List Way) → ways u c (lines_of u c (clauses c)) k ≡ ws → (w : Way) (rest : List Way) →
+          ws ≡ w ∷ rest →
           is_member k (above (line_of u d)) ≡ true → (xs : Actuals) × (common ws ≡ Some xs)
       found ws e w rest q m =
           let defined = ways_defined u c k (clauses c) (λ q m d. ap is_some (parents q m k d).1) in
@@ -179,7 +185,8 @@ module _ (u : List ClassT) (order : List ℕ) (is : IsOrder (graph_of u) order)
           let r = found (ways u c (lines_of u c (clauses c)) k) refl w.0 w.1 w.2 m in (
             r.0,
             unfold_derived
-                ∙ (ap (λ b. if b then Some (own_formals c) else common (ways u c (lines_of u c (clauses c)) k)) e ∙ r.1),
+                ∙ (ap (λ b. if b then Some (own_formals c) else common (ways u c (lines_of u c (clauses c)) k)) e
+                ∙ r.1),
           )
 
   pub all_defined : Defined u

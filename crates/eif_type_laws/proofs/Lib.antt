@@ -11,3 +11,4 @@ pub mod Defining
 pub mod Resolving
 pub mod WholeUniverses
 pub mod ValidUniverses
+pub mod Closed

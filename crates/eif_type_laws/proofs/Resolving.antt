@@ -97,7 +97,7 @@ module _ (u : List ClassT) (c : ClassT) where
         here : IsWithin n (type_at p q m name ts) → AreOf u n (all_resolved u c ts) →
             IsSomething (resolved u c (type_at p q m name ts)) × IsOf u n (resolved u c (type_at p q m name ts))
         here (inl i) rest = subst (λ t. IsSomething t × IsOf u n t) (sym i.1) (tt, i.2)
-        here (inr k) rest = subst (λ t. IsSomething t × IsOf u n t) (sym (class_meant (type_at p q m name ts) k.0 k.1)) (
+        here (inr k) rest = let e = class_meant (type_at p q m name ts) k.0 k.1 in subst (λ t. IsSomething t × IsOf u n t) (sym e) (
           tt,
           (
             class_number_within u name k.0 k.1.number,
@@ -119,5 +119,6 @@ module _ (u : List ClassT) (c : ClassT) where
       (clause_actuals u c p ≡ all_meant p.parent) × (j ≡ k)
   parent_meant p j k is e = (
     ap actuals_in (class_meant p.parent j is),
-    same_Some j k (sym (ap (λ b. if b then None else class_number u (type_name p.parent)) is.no_formal ∙ is.number) ∙ e),
+    same_Some j k
+        (sym (ap (λ b. if b then None else class_number u (type_name p.parent)) is.no_formal ∙ is.number) ∙ e),
   )

@@ -139,7 +139,8 @@ module _ (given : List ClassT) (root : Root) (never : IsNone (UniverseBroken giv
       let judge = λ (x : ℕ × ClassT). class_derivation_faults classes (line_of classes (kernel_count + x.0)) in
       let none = none_in (each_given class_derivation_faults given) underived in
       let each = none_of_each judge (enumerate_from 0 given) none in
-      let here = all_numbers (λ n. class_derivation_faults classes (line_of classes (kernel_count + n)) ≡ []) 0 given i c each at in
+      let here = all_numbers (λ n. class_derivation_faults classes (line_of classes (kernel_count + n)) ≡ [])
+      0 given i c each at in
       let there : class_derivation_faults classes (line_of classes (kernel_count + i)) ≡ [] =
       subst (λ n. class_derivation_faults classes (line_of classes (kernel_count + n)) ≡ []) (omega arith) here in
       sym (ap (class_derivation_faults classes) (unfolds (kernel_count + i) c (given_at given i c at))) ∙ there
@@ -194,7 +195,8 @@ module _ (given : List ClassT) (root : Root) (never : IsNone (UniverseBroken giv
       let n = all_at (λ p. (k : ℕ) × NamesClass classes c p.parent k) (clauses c) i p
       (parents_named given root never d c at) among in
       let m = parent_meant classes c p n.0 k n.1 names in
-      let w = all_at (λ p. AllOf (IsFine classes d c []) (nested p.parent)) (clauses c) i p (parents_fine d c at) among in
+      let w = all_at (λ p. AllOf (IsFine classes d c []) (nested p.parent)) (clauses c) i p
+      (parents_fine d c at) among in
       let v = subst (IsValid classes d) (class_meant classes c p.parent n.0 n.1) (valid_of classes d c [] p.parent w) in
       record {
         meet = subst (λ xs. Meet classes d xs (constraints_of classes k)) (sym m.0)

@@ -114,7 +114,8 @@ module _ (u : List ClassT) (order : List ℕ) (is : IsHierarchy u order) (define
             let r = parents w.q m k g.ts g.gives in
             let p = is.parents d c at w.place w.clause w.among w.q w.names in
             let q = clauses_valid d c at w.place w.clause w.among w.q w.names in
-            let types = subst (λ n. AreOf u n (clause_actuals u c w.clause)) (sym (count_is u order is d c at)) p.types in
+            let count = sym (count_is u order is d c at) in
+            let types = subst (λ n. AreOf u n (clause_actuals u c w.clause)) count p.types in
             let o = ancestor_of u order is w.q k g.ts g.gives in
             subst (λ xs. Meet u d xs (constraints_of u k) × AreValid u d xs) g.puts (
               put_meets w.q d (clause_actuals u c w.clause) types q.valid q.meet g.ts (constraints_of u k) o.0

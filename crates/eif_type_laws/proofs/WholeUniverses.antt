@@ -43,7 +43,8 @@ module _ (given : List ClassT) (root : Root) (never : IsNone (UniverseBroken giv
 
   pub is_clause : EachClause u (λ d c p k. IsClauseOf u c p k)
   is_clause d c at i p among k names =
-      let n = all_at (λ p. (k : ℕ) × NamesClass u c p.parent k) (clauses c) i p (parents_named given root never d c at) among in
+      let n = all_at (λ p. (k : ℕ) × NamesClass u c p.parent k) (clauses c) i p
+      (parents_named given root never d c at) among in
       let m = parent_meant u c p n.0 k n.1 names in
       let w = all_at (λ p. AllOf (IsNamed u c) (nested p.parent)) (clauses c) i p (parent_types d c at) among in
       record {
@@ -60,7 +61,8 @@ module _ (given : List ClassT) (root : Root) (never : IsNone (UniverseBroken giv
 
   constraint_of : (c : ClassT) (o : Option TypeT) → AllOf (λ t. AllOf (IsNamed u c) (nested t)) (present o) →
       AllOf (λ s. is_formal c (type_name s) ≡ false) (flat_map nested (present o)) →
-      IsSomething (option_map_or (resolved u c) o detachable_any) × IsOf u 0 (option_map_or (resolved u c) o detachable_any)
+      IsSomething (option_map_or (resolved u c) o detachable_any)
+      × IsOf u 0 (option_map_or (resolved u c) o detachable_any)
   constraint_of c None h g = any_closed
   constraint_of c (Some t) h g =
       meant_of u c 0 t (all_both (IsNamed u c) (λ s. is_formal c (type_name s) ≡ false) (IsWithin u c 0) (nested t)

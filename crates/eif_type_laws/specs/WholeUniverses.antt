@@ -32,7 +32,8 @@ WrittenTypesAreOfTheClass =
     (given : List ClassT) (root : Root) → IsNone (UniverseBroken given root) →
     (d : ℕ) (c : ClassT) → slice_get (universe given) d ≡ Some c →
     OfWrittenTypes c (λ t.
-    IsSomething (resolved (universe given) c t) × IsOf (universe given) (length c.formals) (resolved (universe given) c t))
+    IsSomething (resolved (universe given) c t)
+    × IsOf (universe given) (length c.formals) (resolved (universe given) c t))
 
 -- ---- and no rule of derivations
 

@@ -3,6 +3,7 @@
 #![tactic(auto)]
 
 ghost use Rattle.eif_type_laws.specs.TypeLaws.{SubstitutionComposes, AncestryComposes, AncestryIsOfTheClass, ConformanceIsReflexive, ConformanceIsTransitive, SubstitutionKeepsConformance, SubstitutionKeepsValidity, AncestryIsValid, AncestryIsDefined, ConformanceKeepsAttachment, SubstitutionKeepsAttachment};
+ghost use Rattle.eif_type_laws.specs.ClosedTypes.{ClosedConformance, ClosedValidity, SubstitutionClosesConformance};
 ghost use Rattle.eif_type_laws.specs.WholeUniverses.{UniverseIsHierarchy, WrittenTypesAreOfTheClass, UniverseIsDefined, ClausesAreValid, WrittenTypesAreValid};
 
 /// Actuals put in after actuals are the first ones with the second put in, put in at once.
@@ -60,6 +61,14 @@ pub fn substitution_keeps_attachment()
 /// Where no class breaks a rule of derivations, what classes give their ancestors is defined.
 pub fn ancestry_is_defined()
     ensures { AncestryIsDefined }
+{}
+
+/// Types without formals conform to one another, and are valid, in any class alike; put in the types
+/// of a class whose constraints they meet, they keep conformance.
+pub fn closed_types()
+    ensures conformance { ClosedConformance }
+    ensures validity { ClosedValidity }
+    ensures substitution { SubstitutionClosesConformance }
 {}
 
 /// Where no rule of the universe is broken, its classes are a hierarchy in any order of inheritance,

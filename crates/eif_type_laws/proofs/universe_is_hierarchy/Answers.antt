@@ -5,4 +5,5 @@ pub returns-clause-hierarchy : goal.returns-clause-hierarchy
 returns-clause-hierarchy c = λ given root never order is. hierarchy given root never order is
 
 pub returns-clause-types : goal.returns-clause-types
-returns-clause-types c = λ given root never d x at i w among j t inside. written_of given root never d x at i w among j t inside
+returns-clause-types c =
+    λ given root never d x at i w among j t inside. written_of given root never d x at i w among j t inside

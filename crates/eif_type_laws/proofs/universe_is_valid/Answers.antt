@@ -6,8 +6,10 @@ returns-clause-defined c = λ given root never underived d k h. valid.defined gi
 
 pub returns-clause-clauses : goal.returns-clause-clauses
 returns-clause-clauses c =
-    λ given root never underived d x at i p among k names. valid.clauses_valid given root never underived d x at i p among k names
+    λ given root never underived d x at i p among k names.
+    valid.clauses_valid given root never underived d x at i p among k names
 
 pub returns-clause-types : goal.returns-clause-types
 returns-clause-types c =
-    λ given root never underived d x at i w among j t inside. valid.written_valid given root never underived d x at i w among j t inside
+    λ given root never underived d x at i w among j t inside.
+    valid.written_valid given root never underived d x at i w among j t inside
