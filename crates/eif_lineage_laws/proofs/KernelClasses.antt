@@ -12,7 +12,7 @@ use Rattle.eif_system.specs.Universe.{universe, class_number, is_formal}
 use Rattle.eif_system.specs.WrittenTypes.{present, nested, type_name, written_types}
 use Rattle.eif_tree.specs.Tree.{ClassT}
 use Rattle.eif_lineage_laws.specs.Universes.{NamesClass}
-use Rattle.eif_lineage_laws.proofs.NoFaults.{AllOf}
+use Rattle.eif_lineage_laws.proofs.EachItem.{AllOf}
 
 abbrev pub integer_class : ClassT
 integer_class = bare_class nowhere (codes "integer")

@@ -1,6 +1,7 @@
 pub mod RisingNumbers
 pub mod Unfolding
 pub mod Descending
+pub mod EachItem
 pub mod NoFaults
 pub mod Ordering
 pub mod Written

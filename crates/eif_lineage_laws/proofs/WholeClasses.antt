@@ -21,7 +21,8 @@ use Rattle.eif_system.specs.WrittenTypes.{Written, written, written_types, prese
 use Rattle.eif_tree.specs.Tree.{TypeT, FormalT, ParentT, ClassT}
 use Rattle.eif_lineage_laws.specs.Universes.{NamesClass, IsNamed}
 use Rattle.eif_lineage_laws.proofs.KernelClasses.{integer_class, boolean_class, of_each, given_at, any_first, any_parents, kernel_names, kernel_types, any_parent, NameClasses, kernel_parents, NameNoFormal, kernel_constraints}
-use Rattle.eif_lineage_laws.proofs.NoFaults.{none_left, none_right, AllOf, all_at, all_from, all_then, all_left, all_numbered, none_of_each, none_where, none_in}
+use Rattle.eif_lineage_laws.proofs.EachItem.{AllOf, all_at, all_from, all_then, all_left, all_numbered}
+use Rattle.eif_lineage_laws.proofs.NoFaults.{none_left, none_right, none_of_each, none_where, none_in}
 use Rattle.eif_lineage_laws.proofs.Ordering.{order_exists}
 use Rattle.eif_lineage_laws.proofs.Written.{each_clause, nested_first, among_parents}
 use Rattle.eif_lineage_laws.proofs.Numbers.{first_number_is, parent_by, graph_closed}

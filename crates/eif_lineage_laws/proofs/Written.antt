@@ -8,7 +8,7 @@ use Rattle.eif_system.specs.Kernel.{any_name}
 use Rattle.eif_system.specs.WrittenTypes.{Written, written, written_in, written_types, invariant_name, types_of_expressions, present, nested, nested_in}
 use Rattle.eif_tree.specs.Members.{declarations}
 use Rattle.eif_tree.specs.Tree.{TypeT, type_at, Types, no_types, and_type, ParentT, ClassT}
-use Rattle.eif_lineage_laws.proofs.NoFaults.{AllOf, all_append, all_left, all_right, all_map}
+use Rattle.eif_lineage_laws.proofs.EachItem.{AllOf, all_append, all_left, all_right, all_map}
 
 -- what holds of a type and all in it holds so of each of them
 mutual

@@ -12,7 +12,8 @@ use Rattle.eif_classes.specs.Resolution.{own_formals, clause_actuals}
 use Rattle.eif_classes.specs.Types.{Actuals, put_in_all}
 use Rattle.eif_feature_rules.specs.DerivationRules.{are_defined, is_large, differing, fault_at_way, large_derivation, differing_derivation, ancestor_faults, name_of, derivation_faults}
 use Rattle.eif_lineage_laws.proofs.Descending.{lines_of, has_class, descends_by, descends_reaches, above_is_listed}
-use Rattle.eif_lineage_laws.proofs.NoFaults.{none_left, none_right, none_of_each, none_mapped, all_at}
+use Rattle.eif_lineage_laws.proofs.EachItem.{all_at}
+use Rattle.eif_lineage_laws.proofs.NoFaults.{none_left, none_right, none_of_each, none_mapped}
 use Rattle.eif_lineage_laws.proofs.Unfolding.{first_number, later_number, by_parents, Step, unfolded}
 use Rattle.eif_system.specs.Graph.{is_member, IsOrder}
 use Rattle.eif_system.specs.Inheritance.{clauses, parent_number, graph_of}

@@ -7,8 +7,8 @@ pub mod ClassConformance
 pub mod Conforming
 pub mod Attachment
 pub mod Validity
+pub mod Closed
 pub mod Defining
 pub mod Resolving
 pub mod WholeUniverses
 pub mod ValidUniverses
-pub mod Closed

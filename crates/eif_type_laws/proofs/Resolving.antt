@@ -7,7 +7,7 @@ use Rattle.std.specs.Str.{bytes_eq}
 use Rattle.eif_classes.specs.Resolution.{formal_number, class_mark, type_of_class, type_denoted, resolved, all_resolved, actuals_in, clause_actuals}
 use Rattle.eif_classes.specs.Types.{class_type, formal_type, Actuals}
 use Rattle.eif_lineage_laws.proofs.Numbers.{class_number_within}
-use Rattle.eif_lineage_laws.proofs.NoFaults.{AllOf, all_left, all_right}
+use Rattle.eif_lineage_laws.proofs.EachItem.{AllOf, all_left, all_right}
 use Rattle.eif_lineage_laws.specs.Universes.{NamesFormal, NamesClass, IsNamed}
 use Rattle.eif_system.specs.Inheritance.{parent_number}
 use Rattle.eif_system.specs.Universe.{class_number, is_formal}

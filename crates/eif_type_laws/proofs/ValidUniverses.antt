@@ -6,18 +6,20 @@ use Rattle.std.specs.Prelude.{slice_get, not, if◌then◌else◌}
 use Rattle.eif_base.specs.declared.code.Code.TheVariants as code
 use Rattle.eif_base.specs.declared.root.Root.{Root}
 use Rattle.eif_classes.specs.Conformance.{conforms}
-use Rattle.eif_classes.specs.Constraints.{formal_constraint}
+use Rattle.eif_classes.specs.Constraints.{detachable_any, formal_constraint}
 use Rattle.eif_classes.specs.Resolution.{resolved, all_resolved}
+use Rattle.eif_classes.specs.Types.{no_actuals}
 use Rattle.eif_feature_rules.specs.DerivationRules.{derivation_faults, wrong_actual, class_named, actual_faults_by, actual_faults, written_actual_faults}
 use Rattle.eif_feature_rules.specs.FeaturePhases.{class_derivation_faults, each_given, DerivationsBroken}
 use Rattle.eif_lineage_laws.specs.Lineages.{line_over}
 use Rattle.eif_lineage_laws.specs.Universes.{NamesClass, IsNamed}
 use Rattle.eif_lineage_laws.proofs.KernelClasses.{OfKernel, of_each, given_at, integer_class, boolean_class}
-use Rattle.eif_lineage_laws.proofs.NoFaults.{none_left, none_right, AllOf, all_at, all_left, all_right, all_both, all_numbers, none_of_each, none_where, none_in}
+use Rattle.eif_lineage_laws.proofs.EachItem.{AllOf, all_at, all_left, all_right, all_flat, all_both, all_numbers}
+use Rattle.eif_lineage_laws.proofs.NoFaults.{none_left, none_right, none_of_each, none_where, none_in}
 use Rattle.eif_lineage_laws.proofs.Numbers.{class_number_within}
 use Rattle.eif_lineage_laws.proofs.Unfolding.{class_within, unfolded}
 use Rattle.eif_lineage_laws.proofs.WholeClasses.{AreNamed, any_named, types_named, parents_named, has_order}
-use Rattle.eif_lineage_laws.proofs.Written.{each_clause, nested_again, among_parents}
+use Rattle.eif_lineage_laws.proofs.Written.{each_clause, nested_again, among_parents, among_constraints}
 use Rattle.eif_rules.specs.FaultForms.{IsNone, fault_in}
 use Rattle.eif_rules.specs.UniverseRules.{UniverseBroken}
 use Rattle.eif_system.specs.Graph.{IsOrder}
@@ -25,10 +27,12 @@ use Rattle.eif_system.specs.Inheritance.{any_clause, clauses, graph_of}
 use Rattle.eif_system.specs.Kernel.{kernel, kernel_count, any_class, character_class, string_class, array_class}
 use Rattle.eif_system.specs.Lineage.{line, top, up, line_of}
 use Rattle.eif_system.specs.Universe.{universe, class_number}
-use Rattle.eif_system.specs.WrittenTypes.{Written, written_types, nested, nested_in, type_list, type_place}
+use Rattle.eif_system.specs.WrittenTypes.{Written, written_types, present, nested, nested_in, type_list, type_place}
 use Rattle.eif_tree.specs.Tree.{TypeT, type_at, Types, no_types, and_type, FormalT, ClassT}
 use Rattle.eif_type_laws.specs.ClassTypes.{constraints_by, constraints_of, Meet, IsValid, AreValid, EachClause, IsValidClause, Defined}
+use Rattle.eif_type_laws.proofs.Closed.{all_closed_valid}
 use Rattle.eif_type_laws.proofs.Defining.{all_defined}
+use Rattle.eif_type_laws.proofs.WholeUniverses.{all_constraints_closed, hierarchy}
 use Rattle.eif_type_laws.proofs.Resolving.{all_meant, class_meant, formal_meant, parent_meant}
 
 not_true : (b : Bool) → not b ≡ false → b ≡ true
@@ -101,9 +105,6 @@ module _ (given : List ClassT) where
   kernel_actuals =
       record { any = refl; integer = refl; boolean = refl; character = refl; string = refl; array = refl }
 
-  any_line : line_of u 0 ≡ line_over u 0 any_class → line_of u 0 ≡ line 0 any_class top
-  any_line e = e
-
   any_at : slice_get u 0 ≡ Some any_class
   unfolding kernel
   any_at = refl
@@ -119,6 +120,11 @@ module _ (given : List ClassT) where
       string = subst (λ l. derivation_faults u (line 4 string_class (up any_clause l top)) ≡ []) (sym first) refl;
       array = subst (λ l. derivation_faults u (line 5 array_class (up any_clause l top)) ≡ []) (sym first) refl;
     }
+
+  -- ANY has no constraints to meet
+  any_meet : (d : ℕ) → Meet u d no_actuals (constraints_of u 0)
+  unfolding kernel
+  any_meet d = tt
 
 -- ---- all classes
 
@@ -150,7 +156,7 @@ module _ (given : List ClassT) (root : Root) (never : IsNone (UniverseBroken giv
   no_derivation_fault d c at =
       ap (derivation_faults classes) (unfolds d c at)
       ∙ of_each given (λ d c. derivation_faults classes (line_over classes d c) ≡ [])
-      (kernel_derivations given (any_line given (unfolds 0 any_class (any_at given))))
+      (kernel_derivations given (unfolds 0 any_class (any_at given)))
       (λ i c at. none_left (derivation_faults classes (line_over classes (kernel_count + i) c))
       (written_actual_faults classes (kernel_count + i) c) (judged i c at)) d c at
 
@@ -203,6 +209,28 @@ module _ (given : List ClassT) (root : Root) (never : IsNone (UniverseBroken giv
             (subst (λ k. Meet classes d (all_meant classes c p.parent) (constraints_of classes k)) m.1 v.0);
         valid = subst (AreValid classes d) (sym m.0) v.1;
       }
+
+  -- a formal without a constraint has one without actuals
+  constraints_fine : (d : ℕ) (c : ClassT) (fs : List FormalT) →
+      AllOf (λ f. AllOf (λ t. AllOf (IsFine classes d c []) (nested t)) (present f.constraint)) fs →
+      AreValid classes d (constraints_by classes c fs)
+  constraints_fine d c [] h = tt
+  constraints_fine d c (f ∷ fs) h = (here f.constraint h.0, constraints_fine d c fs h.1)
+    where
+      here : (o : Option TypeT) → AllOf (λ t. AllOf (IsFine classes d c []) (nested t)) (present o) →
+          IsValid classes d (option_map_or (resolved classes c) o detachable_any)
+      here None h = (any_meet given d, tt)
+      here (Some t) h = valid_of classes d c [] t h.0
+
+  pub constraints_valid : (d e : ℕ) → AreValid classes e (constraints_of classes d)
+  constraints_valid d e = all_closed_valid classes order.0 (hierarchy given root never order.0 order.1) d e
+      (constraints_of classes d) (all_constraints_closed given root never d) (go (slice_get classes d) refl)
+    where
+      go : (o : Option ClassT) → slice_get classes d ≡ o → AreValid classes d (constraints_of classes d)
+      go None e = rw e tt
+      go (Some c) e = rw e (constraints_fine d c c.formals
+          (all_flat (λ f. present f.constraint) (λ t. AllOf (IsFine classes d c []) (nested t)) c.formals
+          (among_constraints c (AreFine d c) (types_fine d c e))))
 
   pub written_valid : (d : ℕ) (c : ClassT) → slice_get classes d ≡ Some c → (i : ℕ) (w : Written) →
       slice_get (written_types c) i ≡ Some w → (j : ℕ) (t : TypeT) → slice_get (nested w.type_tree) j ≡ Some t →

@@ -10,7 +10,7 @@ use Rattle.eif_lineage_laws.specs.Universes.{NamesClass, IsNamed}
 use Rattle.eif_lineage_laws.proofs.KernelClasses.{any_first, any_has_no_formal}
 use Rattle.eif_lineage_laws.proofs.Written.{each_clause, nested_again, among_parents, among_constraints}
 use Rattle.eif_lineage_laws.proofs.Numbers.{class_number_within}
-use Rattle.eif_lineage_laws.proofs.NoFaults.{AllOf, all_at, all_then, all_left, all_flat, all_both}
+use Rattle.eif_lineage_laws.proofs.EachItem.{AllOf, all_at, all_then, all_left, all_flat, all_both}
 use Rattle.eif_lineage_laws.proofs.WholeClasses.{AreNamed, any_named, types_named, parents_named, constraints_named}
 use Rattle.eif_rules.specs.FaultForms.{IsNone}
 use Rattle.eif_rules.specs.UniverseRules.{formal_count, UniverseBroken}

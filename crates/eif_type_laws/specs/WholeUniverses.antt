@@ -11,7 +11,7 @@ use Rattle.eif_system.specs.Inheritance.{graph_of}
 use Rattle.eif_system.specs.Universe.{universe}
 use Rattle.eif_system.specs.WrittenTypes.{nested, written_types}
 use Rattle.eif_tree.specs.Tree.{TypeT, ClassT}
-use Rattle.eif_type_laws.specs.ClassTypes.{IsSomething, IsOf, IsValid, EachClause, IsValidClause, IsHierarchy, Defined}
+use Rattle.eif_type_laws.specs.ClassTypes.{IsSomething, IsOf, constraints_of, IsValid, AreValid, EachClause, IsValidClause, IsHierarchy, Defined}
 
 -- P of each type that the class c writes, and of each type in one
 abbrev pub OfWrittenTypes : ClassT → (TypeT → Type 0) → Type 0
@@ -52,3 +52,9 @@ WrittenTypesAreValid =
     (given : List ClassT) (root : Root) → IsNone (UniverseBroken given root) → IsNone (DerivationsBroken given root) →
     (d : ℕ) (c : ClassT) → slice_get (universe given) d ≡ Some c →
     OfWrittenTypes c (λ t. IsValid (universe given) d (resolved (universe given) c t))
+
+-- constraints are valid, in any class since they name no formal
+abbrev pub ConstraintsAreValid : Type 0
+ConstraintsAreValid =
+    (given : List ClassT) (root : Root) → IsNone (UniverseBroken given root) → IsNone (DerivationsBroken given root) →
+    (d e : ℕ) → AreValid (universe given) e (constraints_of (universe given) d)

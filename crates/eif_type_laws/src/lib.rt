@@ -4,7 +4,7 @@
 
 ghost use Rattle.eif_type_laws.specs.TypeLaws.{SubstitutionComposes, AncestryComposes, AncestryIsOfTheClass, ConformanceIsReflexive, ConformanceIsTransitive, SubstitutionKeepsConformance, SubstitutionKeepsValidity, AncestryIsValid, AncestryIsDefined, ConformanceKeepsAttachment, SubstitutionKeepsAttachment};
 ghost use Rattle.eif_type_laws.specs.ClosedTypes.{ClosedConformance, ClosedValidity, SubstitutionClosesConformance};
-ghost use Rattle.eif_type_laws.specs.WholeUniverses.{UniverseIsHierarchy, WrittenTypesAreOfTheClass, UniverseIsDefined, ClausesAreValid, WrittenTypesAreValid};
+ghost use Rattle.eif_type_laws.specs.WholeUniverses.{UniverseIsHierarchy, WrittenTypesAreOfTheClass, UniverseIsDefined, ClausesAreValid, WrittenTypesAreValid, ConstraintsAreValid};
 
 /// Actuals put in after actuals are the first ones with the second put in, put in at once.
 pub fn substitution_composes()
@@ -79,9 +79,10 @@ pub fn universe_is_hierarchy()
 {}
 
 /// Where no rule of the universe and none of derivations is broken, what classes give their ancestors
-/// is defined, and parent clauses and written types are valid.
+/// is defined, and parent clauses, written types and constraints are valid.
 pub fn universe_is_valid()
     ensures defined { UniverseIsDefined }
     ensures clauses { ClausesAreValid }
     ensures types { WrittenTypesAreValid }
+    ensures constraints { ConstraintsAreValid }
 {}

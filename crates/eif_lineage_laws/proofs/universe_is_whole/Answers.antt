@@ -2,7 +2,7 @@ use Rattle.eif_system.specs.Universe.{universe}
 use Rattle.eif_system.specs.WrittenTypes.{nested, written_types}
 use Rattle.eif_system.specs.Inheritance.{clauses}
 use Rattle.eif_lineage_laws.specs.Universes.{IsNamed}
-use Rattle.eif_lineage_laws.proofs.NoFaults.{all_at}
+use Rattle.eif_lineage_laws.proofs.EachItem.{all_at}
 use Rattle.eif_lineage_laws.proofs.WholeClasses as whole
 use Rattle.eif_lineage_laws.proofs.universe_is_whole.Goals as goal
 

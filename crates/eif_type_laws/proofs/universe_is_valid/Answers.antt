@@ -13,3 +13,6 @@ pub returns-clause-types : goal.returns-clause-types
 returns-clause-types c =
     λ given root never underived d x at i w among j t inside.
     valid.written_valid given root never underived d x at i w among j t inside
+
+pub returns-clause-constraints : goal.returns-clause-constraints
+returns-clause-constraints c = λ given root never underived d e. valid.constraints_valid given root never underived d e
