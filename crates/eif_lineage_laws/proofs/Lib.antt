@@ -1,0 +1,10 @@
+pub mod RisingNumbers
+pub mod Unfolding
+pub mod Descending
+pub mod EachItem
+pub mod NoFaults
+pub mod Ordering
+pub mod Written
+pub mod Numbers
+pub mod KernelClasses
+pub mod WholeClasses

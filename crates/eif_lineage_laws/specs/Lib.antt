@@ -1,0 +1,3 @@
+pub mod Lineages
+pub mod Orders
+pub mod Universes

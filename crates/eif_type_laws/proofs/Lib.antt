@@ -1,0 +1,14 @@
+pub mod SameTypes
+pub mod Substitution
+pub mod TypesKept
+pub mod Ways
+pub mod Ancestors
+pub mod ClassConformance
+pub mod Conforming
+pub mod Attachment
+pub mod Validity
+pub mod Closed
+pub mod Defining
+pub mod Resolving
+pub mod WholeUniverses
+pub mod ValidUniverses

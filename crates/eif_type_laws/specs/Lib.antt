@@ -1,0 +1,4 @@
+pub mod ClassTypes
+pub mod TypeLaws
+pub mod WholeUniverses
+pub mod ClosedTypes
