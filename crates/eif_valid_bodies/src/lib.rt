@@ -2,9 +2,16 @@
 #![tactic(auto)]
 
 ghost use Rattle.eif_valid_bodies.specs.ValidCalls.{ValidArguments, ValidCalls};
+ghost use Rattle.eif_valid_bodies.specs.ValidNodes.{ValidLeaves, ValidNodes};
 
 /// What names, calls and Precursor without faults say of their target, their arguments and their result.
 pub fn valid_calls()
     ensures arguments { ValidArguments }
     ensures calls { ValidCalls }
+{}
+
+/// The same of literals, Void, Current and Result, and of creations, object tests and operators.
+pub fn valid_nodes()
+    ensures leaves { ValidLeaves }
+    ensures nodes { ValidNodes }
 {}
