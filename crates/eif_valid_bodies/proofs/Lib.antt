@@ -1,3 +1,6 @@
 pub mod Parts
 pub mod Calls
 pub mod Nodes
+pub mod TypedFacts
+pub mod TypedRules
+pub mod TypedExpressions

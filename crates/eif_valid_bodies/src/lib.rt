@@ -1,6 +1,7 @@
 //! What bodies without faults say of each of their nodes. Each law is a clause of a function that does nothing.
 #![tactic(auto)]
 
+ghost use Rattle.eif_valid_bodies.specs.Valid.{NoFaultIsTyped};
 ghost use Rattle.eif_valid_bodies.specs.ValidCalls.{ValidArguments, ValidCalls};
 ghost use Rattle.eif_valid_bodies.specs.ValidNodes.{ValidLeaves, ValidNodes};
 
@@ -14,4 +15,10 @@ pub fn valid_calls()
 pub fn valid_nodes()
     ensures leaves { ValidLeaves }
     ensures nodes { ValidNodes }
+{}
+
+/// Where the object tests that are known are typed, an expression without faults has a type, and so
+/// has each test that it tells of.
+pub fn no_fault_is_typed()
+    ensures { NoFaultIsTyped }
 {}
