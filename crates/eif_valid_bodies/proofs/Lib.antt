@@ -4,3 +4,7 @@ pub mod Nodes
 pub mod TypedFacts
 pub mod TypedRules
 pub mod TypedExpressions
+pub mod ReadsSet
+pub mod Targets
+pub mod Instructions
+pub mod Declarations
