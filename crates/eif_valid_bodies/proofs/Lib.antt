@@ -1,0 +1,10 @@
+pub mod Parts
+pub mod Calls
+pub mod Nodes
+pub mod TypedFacts
+pub mod TypedRules
+pub mod TypedExpressions
+pub mod ReadsSet
+pub mod Targets
+pub mod Instructions
+pub mod Declarations

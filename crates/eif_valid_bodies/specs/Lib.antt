@@ -1,0 +1,6 @@
+pub mod SetReads
+pub mod Valid
+pub mod ValidBodies
+pub mod ValidCalls
+pub mod ValidInstructions
+pub mod ValidNodes
