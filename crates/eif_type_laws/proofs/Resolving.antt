@@ -97,14 +97,16 @@ module _ (u : List ClassT) (c : ClassT) where
         here : IsWithin n (type_at p q m name ts) → AreOf u n (all_resolved u c ts) →
             IsSomething (resolved u c (type_at p q m name ts)) × IsOf u n (resolved u c (type_at p q m name ts))
         here (inl i) rest = subst (λ t. IsSomething t × IsOf u n t) (sym i.1) (tt, i.2)
-        here (inr k) rest = let e = class_meant (type_at p q m name ts) k.0 k.1 in subst (λ t. IsSomething t × IsOf u n t) (sym e) (
-          tt,
-          (
-            class_number_within u name k.0 k.1.number,
-            count_resolved ts ∙ k.1.count,
-            rest,
-          ),
-        )
+        here (inr k) rest =
+            let e = class_meant (type_at p q m name ts) k.0 k.1 in
+            subst (λ t. IsSomething t × IsOf u n t) (sym e) (
+              tt,
+              (
+                class_number_within u name k.0 k.1.number,
+                count_resolved ts ∙ k.1.count,
+                rest,
+              ),
+            )
 
     pub all_meant_of : (n : ℕ) (ts : Types) → AllOf (IsWithin n) (nested_in ts) → AreOf u n (all_resolved u c ts)
     all_meant_of n no_types h = tt

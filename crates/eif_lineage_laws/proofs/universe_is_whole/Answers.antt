@@ -21,7 +21,8 @@ returns-clause-parents c = λ given root never d x at i p among.
 
 pub returns-clause-constraints : goal.returns-clause-constraints
 returns-clause-constraints c = λ given root never d x at i f among t stated j s inside.
-    whole.constraint_names_none x f t s j (all_at _ x.formals i f (whole.constraints_named given root never d x at) among)
+    whole.constraint_names_none x f t s j
+    (all_at _ x.formals i f (whole.constraints_named given root never d x at) among)
     stated inside
 
 pub returns-clause-order : goal.returns-clause-order
