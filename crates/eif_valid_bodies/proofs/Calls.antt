@@ -2,7 +2,7 @@
 use Rattle.std.proofs.Common.{arith, ◌≡◌, ℕ, Bool, true, false, List, [], ◌∷◌, ◌++◌, length, Option, Some, None, refl, sym, ap, ◌∙◌, ◌==◌}
 use Rattle.std.specs.Prelude.{if◌then◌else◌, not, ◌&&◌, ◌||◌}
 use Rattle.std.specs.List.{list_any}
-use Rattle.std.specs.Option.{option_map, option_map_or}
+use Rattle.std.specs.Option.{option_map}
 use Rattle.std.proofs.lemmas.Bool.Decides.{nat_tests}
 use Rattle.eif_base.specs.declared.code.Code.TheVariants as code
 use Rattle.eif_base.specs.declared.fault.Fault.{Fault}
@@ -13,11 +13,10 @@ use Rattle.eif_tree.specs.Tree.{Ex, unqualified, precursor, qualified, Exs, no_e
 use Rattle.eif_classes.specs.Clients.{is_available}
 use Rattle.eif_classes.specs.Constraints.{is_attached}
 use Rattle.eif_classes.specs.Precursors as versions
-use Rattle.eif_system.specs.Lineage.{Line}
 use Rattle.eif_classes.specs.Signatures.{Signature, SignedEntry, signature, with_actuals}
-use Rattle.eif_classes.specs.Types.{TyT, Actuals}
+use Rattle.eif_classes.specs.Types.{TyT}
 use Rattle.eif_rules.specs.FaultForms.{fault_where}
-use Rattle.eif_body_rules.specs.CallRules.{Argument, wrong_arguments, call_of, read, use_of, name_rule, visible_call, found_call, call_through, base_line, base_actuals, call_rule, version_call, inherited, precursor_rule}
+use Rattle.eif_body_rules.specs.CallRules.{Argument, wrong_arguments, call_of, use_of, name_rule, found_call, call_through, base_line, base_actuals, call_rule, version_call, inherited, precursor_rule}
 use Rattle.eif_body_rules.specs.ExpressionTypes.{judge, judge_all, first_argument}
 use Rattle.eif_body_rules.specs.Facts.{Fact, is_known_attached}
 use Rattle.eif_body_rules.specs.InstructionFaults.{judge_each, call_judged}

@@ -1,12 +1,11 @@
 -- Declarations of classes without faults are valid.
 use Rattle.std.proofs.Common.{arith, ◌≡◌, ℕ, zero, suc, ◌+◌, ◌<◌, Bool, true, false, List, [], ◌∷◌, ◌++◌, map, Option, Some, None, refl, sym, ap, ◌∙◌, ◌⊎◌, inl, inr}
-use Rattle.std.specs.Prelude.{not, ◌&&◌, ◌||◌, if◌then◌else◌, flat_map, take, slice_get}
+use Rattle.std.specs.Prelude.{◌||◌, if◌then◌else◌, flat_map, take, slice_get}
 use Rattle.std.specs.List.{enumerate_from, find, list_any}
 use Rattle.std.specs.Option.{option_map_or}
 use Rattle.std.specs.Str.{bytes_eq}
 use Rattle.std.proofs.lemmas.Slice.Eq.{bytes_eq-Decides}
 use Rattle.eif_base.specs.Appends.{In}
-use Rattle.eif_base.specs.declared.code.Code.TheVariants as code
 use Rattle.eif_base.specs.declared.fault.Fault.{Fault}
 use Rattle.eif_base.specs.Numbering.{is_among, IsNumbering}
 use Rattle.eif_tree.specs.declared.tree.NameAt.{NameAt}
@@ -14,18 +13,17 @@ use Rattle.eif_tree.specs.Members.{declarations, has_name, result_name}
 use Rattle.eif_tree.specs.Tree.{Inss, KindT, attribute, constant, deferred_body, routine, DeclT, ClassT}
 use Rattle.eif_system.specs.Kernel.{kernel_count}
 use Rattle.eif_system.specs.Universe.{universe}
-use Rattle.eif_classes.specs.Features.{has_feature, declaration_of}
+use Rattle.eif_classes.specs.Features.{has_feature}
 use Rattle.eif_classes.specs.Types.{TyT, is_self_initialising}
-use Rattle.eif_rules.specs.FaultForms.{fault_where, IsNone}
-use Rattle.eif_body_rules.specs.BodyRules.{in_precondition, in_body, in_postcondition, unset_at_end, unset_result, routine_faults, declaration_faults, invariant_faults, class_body_faults, numbered_body_faults, body_faults, GivenBodiesBroken}
+use Rattle.eif_rules.specs.FaultForms.{IsNone}
+use Rattle.eif_body_rules.specs.BodyRules.{in_precondition, in_body, unset_at_end, unset_result, routine_faults, declaration_faults, class_body_faults, numbered_body_faults, body_faults, GivenBodiesBroken}
 use Rattle.eif_body_rules.specs.EntityRules.{names_feature, repeated_entity, entity_rule, entity_faults}
 use Rattle.eif_body_rules.specs.InstructionFaults.{assertion_faults, compound_faults}
 use Rattle.eif_body_rules.specs.LocalFlow.{set_after_all}
-use Rattle.eif_body_rules.specs.Settings.{Setting, fault, Entity, entity_of}
+use Rattle.eif_body_rules.specs.Settings.{Setting, Entity, entity_of}
 use Rattle.eif_valid_bodies.specs.SetReads.{ResultIsSet}
-use Rattle.eif_valid_bodies.specs.ValidBodies.{ValidEntities, ValidRoutine, ValidKind, ValidDeclaration, ValidClass}
-use Rattle.eif_valid_bodies.specs.ValidInstructions.{ValidCompound}
-use Rattle.eif_valid_bodies.proofs.Parts.{no_more, no_value, some_same, left_empty, right_empty, kept}
+use Rattle.eif_valid_bodies.specs.ValidBodies.{ValidEntities, ValidKind, ValidDeclaration, ValidClass}
+use Rattle.eif_valid_bodies.proofs.Parts.{no_value, some_same, left_empty, right_empty, kept}
 use Rattle.eif_valid_bodies.proofs.ReadsSet.{set_by}
 use Rattle.eif_valid_bodies.proofs.Instructions.{body_valid}
 

@@ -1,7 +1,6 @@
 -- Instructions without faults are valid, where the tests that are known are typed.
-use Rattle.std.proofs.Common.{◌≡◌, ℕ, Bool, true, false, List, [], ◌∷◌, ◌++◌, Option, Some, None, refl}
+use Rattle.std.proofs.Common.{◌≡◌, ℕ, Bool, true, false, List, [], ◌++◌, Option, None, refl}
 use Rattle.std.specs.Prelude.{not}
-use Rattle.eif_base.specs.declared.code.Code.TheVariants as code
 use Rattle.eif_base.specs.declared.fault.Fault.{Fault}
 use Rattle.eif_base.specs.declared.place.Place.{Place}
 use Rattle.eif_tree.specs.declared.tree.NameAt.{NameAt}
@@ -10,19 +9,18 @@ use Rattle.eif_tree.specs.Tree.{TypeT, Ex, literal, void_value, current_value, r
 use Rattle.eif_classes.specs.Types.{TyT}
 use Rattle.eif_rules.specs.FaultForms.{fault_where}
 use Rattle.eif_body_rules.specs.CallRules.{Argument, name_rule, precursor_rule, call_rule}
-use Rattle.eif_body_rules.specs.ExpressionTypes.{judge, judge_all, facts, first_argument, type_of, faults_of, told}
+use Rattle.eif_body_rules.specs.ExpressionTypes.{judge, judge_all, first_argument, type_of, faults_of, told}
 use Rattle.eif_body_rules.specs.Facts.{Fact}
 use Rattle.eif_body_rules.specs.InstructionFaults.{expression_faults, no_boolean, condition_faults, loop_faults, dropped, call_judged, judge_each, all_unset_reads, create_instruction_rule, instruction_faults, compound_faults, branch_faults, otherwise_faults}
-use Rattle.eif_body_rules.specs.Judgements.{Judged, ◌▹◌, ◌⊗◌, where_typed}
+use Rattle.eif_body_rules.specs.Judgements.{Judged, ◌▹◌, ◌⊗◌}
 use Rattle.eif_body_rules.specs.KnownFacts.{known_after, known_in_loop, known_where, known_otherwise}
 use Rattle.eif_body_rules.specs.LocalFlow.{unset_reads, unset_reads_of_call, set_after, set_after_all}
 use Rattle.eif_body_rules.specs.OperatorRules.{boolean}
 use Rattle.eif_body_rules.specs.Outcomes.{as_instruction}
-use Rattle.eif_body_rules.specs.Settings.{Setting, fault, fits}
+use Rattle.eif_body_rules.specs.Settings.{Setting, fits}
 use Rattle.eif_body_rules.specs.Targets.{assignment_faults}
 use Rattle.eif_body_rules.specs.TestRules.{test_names}
-use Rattle.eif_valid_bodies.specs.SetReads.{SetReads, SetReadsIn}
-use Rattle.eif_valid_bodies.specs.Valid.{Valid, TestsTyped, TypedExpression, TypedArguments}
+use Rattle.eif_valid_bodies.specs.Valid.{TestsTyped, TypedExpression, TypedArguments}
 use Rattle.eif_valid_bodies.specs.ValidCalls.{ValidName, ValidPrecursor, ValidCall}
 use Rattle.eif_valid_bodies.specs.ValidInstructions.{ValidExpression, ValidCondition, ValidAssign, ValidStatement, ValidCreate, ValidInstruction, ValidCompound, ValidBranches, ValidOtherwise}
 use Rattle.eif_valid_bodies.proofs.Parts.{no_more, left_empty, right_empty, rule_empty, HasValue, has, part_clean, first_clean, second_clean, rule_clean, join_both, rule_has}

@@ -1,38 +1,35 @@
 -- What a valid expression of each other form says.
-use Rattle.std.proofs.Common.{◌≡◌, ◌⊎◌, inl, inr, ℕ, Bool, true, false, List, [], ◌∷◌, ◌++◌, Option, Some, None, refl, sym, ap, ◌∙◌}
+use Rattle.std.proofs.Common.{◌≡◌, ◌⊎◌, inl, inr, ℕ, Bool, true, false, List, [], ◌++◌, Option, Some, None, refl, sym, ap, ◌∙◌}
 use Rattle.std.specs.Prelude.{if◌then◌else◌, not, ◌&&◌, ◌||◌, is_none}
 use Rattle.std.specs.Option.{option_map_or, option_and_then}
 use Rattle.eif_base.specs.declared.code.Code.TheVariants as code
 use Rattle.eif_base.specs.declared.fault.Fault.{Fault}
 use Rattle.eif_base.specs.declared.place.Place.{Place}
-use Rattle.eif_base.specs.Numbering.{is_among}
 use Rattle.eif_tree.specs.declared.tree.Literal.{Literal}
 use Rattle.eif_tree.specs.declared.tree.NameAt.{NameAt}
 use Rattle.eif_tree.specs.declared.tree.Op.{Op}
 use Rattle.eif_tree.specs.declared.tree.Op.TheVariants as op
 use Rattle.eif_tree.specs.Tree.{TypeT, Ex, literal, void_value, current_value, result_value, creation, test, paren, unary, binary, Exs}
-use Rattle.eif_system.specs.WrittenTypes.{type_mark}
 use Rattle.eif_classes.specs.Constraints.{class_in}
 use Rattle.eif_classes.specs.KernelNumbers.{is_basic}
 use Rattle.eif_classes.specs.Resolution.{own_type, actuals_in}
 use Rattle.eif_classes.specs.Signatures.{Signature, signature, with_actuals}
 use Rattle.eif_classes.specs.Types.{TyT, none_type, attached_form}
 use Rattle.eif_rules.specs.FaultForms.{fault_where}
-use Rattle.eif_rules.specs.UniverseRules.{is_detachable}
 use Rattle.eif_body_rules.specs.CallRules.{Argument, visible_result, result_rule}
 use Rattle.eif_body_rules.specs.Conditions.{goes_on, at_right}
 use Rattle.eif_body_rules.specs.CreationRules.{Creation, of_written, created_line, creator_name, is_deferred, is_creator, wrong_created_type, deferred_class, basic_class, no_creator, creation_faults, creator_call, creator_signature, creation_type, creation_rule}
 use Rattle.eif_body_rules.specs.ExpressionTypes.{judge, judge_all, facts, told_by_test}
 use Rattle.eif_body_rules.specs.Facts.{Fact, Usable, usable_test}
-use Rattle.eif_body_rules.specs.Judgements.{Judged, fine, broken, unless, first_of, ◌▹◌, ◌⊗◌}
-use Rattle.eif_body_rules.specs.OperatorRules.{integer, boolean, character, string, literal_type, operator_text, result_where, are_both, sum_rule, order_rule, binary_rule, unary_rule}
+use Rattle.eif_body_rules.specs.Judgements.{Judged, fine, first_of, ◌▹◌}
+use Rattle.eif_body_rules.specs.OperatorRules.{integer, boolean, character, string, literal_type, result_where, are_both, order_rule, binary_rule, unary_rule}
 use Rattle.eif_body_rules.specs.Outcomes.{Outcome}
-use Rattle.eif_body_rules.specs.Settings.{Setting, fault, fits, Entity, entity_of, Meaning, test_local, entity, feature, unknown, or_feature, or_entity, or_test, meaning}
+use Rattle.eif_body_rules.specs.Settings.{Setting, fits, Entity, entity_of, Meaning, or_feature, or_entity, or_test, meaning}
 use Rattle.eif_body_rules.specs.TestRules.{local_names, test_names, denotes, taken_name, repeated_name, local_faults, wrong_test_type, test_faults, test_rule, local_type, bound_local}
 use Rattle.eif_valid_bodies.specs.Valid.{Valid}
 use Rattle.eif_valid_bodies.specs.ValidCalls.{IsCalled}
 use Rattle.eif_valid_bodies.specs.ValidNodes.{AreBoth, Operands, Operand, ValidUnary, ValidBinary, IsFree, IsFreeLocal, IsUnmarked, ValidTest, IsCreated, ValidCreation}
-use Rattle.eif_valid_bodies.proofs.Parts.{no_more, no_value, some_same, kept, none_first, ValidNext, valid_next, ValidTwo, valid_two, fine_is, unless_is, unless_judged}
+use Rattle.eif_valid_bodies.proofs.Parts.{no_more, no_value, kept, none_first, ValidNext, valid_next, ValidTwo, valid_two, fine_is, unless_is, unless_judged}
 use Rattle.eif_valid_bodies.proofs.Calls.{Called, valid_called, long_is}
 
 -- ---- leaves

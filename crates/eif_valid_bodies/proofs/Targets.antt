@@ -1,5 +1,5 @@
 -- The target of an instruction without faults.
-use Rattle.std.proofs.Common.{◌≡◌, ℕ, Bool, true, false, List, [], ◌∷◌, ◌++◌, Option, Some, None, refl, sym, ap, ◌∙◌}
+use Rattle.std.proofs.Common.{◌≡◌, ℕ, Bool, true, false, List, [], Option, Some, None, refl, sym, ap, ◌∙◌}
 use Rattle.std.specs.Prelude.{if◌then◌else◌, not}
 use Rattle.std.specs.Option.{option_map_or}
 use Rattle.std.specs.Str.{bytes_eq}
@@ -15,12 +15,12 @@ use Rattle.eif_body_rules.specs.CallRules.{Argument, result_rule}
 use Rattle.eif_body_rules.specs.CreationRules.{Creation, of_written, creation_faults, creation_rule, unfit_type}
 use Rattle.eif_body_rules.specs.Facts.{Fact}
 use Rattle.eif_body_rules.specs.InstructionFaults.{of_target, created_for, create_instruction_rule}
-use Rattle.eif_body_rules.specs.Judgements.{Judged, fine, broken, first_of, ◌▹◌}
+use Rattle.eif_body_rules.specs.Judgements.{first_of}
 use Rattle.eif_body_rules.specs.Settings.{Setting, fault, fits, Meaning, test_local, entity, feature, unknown, meaning}
-use Rattle.eif_body_rules.specs.Targets.{meant_type, target_type, is_attribute_name, is_variable, variable_type, named_target, target_rule, unfit_source, assignment_faults}
+use Rattle.eif_body_rules.specs.Targets.{meant_type, target_type, is_attribute_name, variable_type, named_target, target_rule, unfit_source, assignment_faults}
 use Rattle.eif_valid_bodies.specs.Valid.{Valid}
 use Rattle.eif_valid_bodies.specs.ValidInstructions.{IsVariable, IsTargetBy, IsTarget, IsCreatedFor}
-use Rattle.eif_valid_bodies.proofs.Parts.{no_more, no_value, some_same, left_empty, right_empty, kept, none_first, fine_is, HasValue, if_has, part_clean, rule_clean}
+use Rattle.eif_valid_bodies.proofs.Parts.{no_more, no_value, some_same, left_empty, right_empty, none_first, HasValue, if_has, part_clean, rule_clean}
 use Rattle.eif_valid_bodies.proofs.Nodes.{result_seen, Made, made_by}
 use Rattle.eif_valid_bodies.proofs.TypedRules.{result_has, creation_has}
 

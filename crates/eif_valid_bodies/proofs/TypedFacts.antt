@@ -14,7 +14,7 @@ use Rattle.eif_body_rules.specs.Conditions.{is_short, tells_both, at_right, told
 use Rattle.eif_body_rules.specs.ExpressionTypes.{type_of, all_attached}
 use Rattle.eif_body_rules.specs.Facts.{Fact, attached, usable, Usable, earlier, usable_test, is_kept, forgotten}
 use Rattle.eif_body_rules.specs.KnownFacts.{assigned, assigned_in, without, learned, has_attached_type, known_after, known_after_all, known_in_loop}
-use Rattle.eif_body_rules.specs.Settings.{Setting, Entity, entity_of, is_local, Meaning, test_local, entity, feature, unknown, or_feature, or_entity, or_test, meaning}
+use Rattle.eif_body_rules.specs.Settings.{Setting, Entity, entity_of, is_local, Meaning, test_local, or_feature, or_entity, or_test, meaning}
 use Rattle.eif_body_rules.specs.TestRules.{local_type, bound_local}
 use Rattle.eif_valid_bodies.specs.Valid.{HasType, TestsTyped}
 use Rattle.eif_valid_bodies.proofs.Parts.{no_value}

@@ -1,7 +1,6 @@
 -- Each rule that is not broken gives a value.
 use Rattle.std.proofs.Common.{◌≡◌, ℕ, Bool, true, false, List, [], ◌∷◌, length, Option, Some, None, refl, ◌==◌}
 use Rattle.std.specs.Prelude.{if◌then◌else◌, ◌||◌}
-use Rattle.std.specs.Option.{option_map}
 use Rattle.eif_base.specs.declared.code.Code.TheVariants as code
 use Rattle.eif_base.specs.declared.fault.Fault.{Fault}
 use Rattle.eif_base.specs.declared.place.Place.{Place}
@@ -11,15 +10,15 @@ use Rattle.eif_tree.specs.declared.tree.Op.TheVariants as op
 use Rattle.eif_classes.specs.Clients.{is_available}
 use Rattle.eif_classes.specs.Constraints.{is_attached}
 use Rattle.eif_system.specs.Lineage.{Line}
-use Rattle.eif_classes.specs.Signatures.{Signature, SignedEntry, signature, with_actuals}
+use Rattle.eif_classes.specs.Signatures.{Signature, SignedEntry}
 use Rattle.eif_classes.specs.Types.{TyT, Actuals, attached_form}
 use Rattle.eif_rules.specs.FaultForms.{fault_where}
-use Rattle.eif_body_rules.specs.CallRules.{Argument, wrong_arguments, call_of, use_of, name_rule, visible_result, result_rule, visible_call, found_call, call_through, base_line, base_actuals, call_rule, version_call, precursor_rule}
+use Rattle.eif_body_rules.specs.CallRules.{Argument, wrong_arguments, call_of, use_of, name_rule, visible_result, result_rule, found_call, call_through, base_line, base_actuals, call_rule, version_call, precursor_rule}
 use Rattle.eif_body_rules.specs.CreationRules.{Creation, creator_call, creator_signature, creation_type, creation_rule}
 use Rattle.eif_body_rules.specs.Facts.{Fact}
 use Rattle.eif_body_rules.specs.Judgements.{Judged, fine, broken, unless, ◌▹◌}
-use Rattle.eif_body_rules.specs.OperatorRules.{integer, boolean, character, string, operator_text, result_where, are_both, sum_rule, order_rule, binary_rule, unary_rule}
-use Rattle.eif_body_rules.specs.Outcomes.{Given, nothing, a_value, Outcome, given, outcome, long_type, value_of, as_value, instruction_of, as_instruction}
+use Rattle.eif_body_rules.specs.OperatorRules.{integer, boolean, character, string, operator_text, result_where, are_both, order_rule, binary_rule, unary_rule}
+use Rattle.eif_body_rules.specs.Outcomes.{Given, nothing, a_value, Outcome, given, outcome, value_of, as_value, instruction_of, as_instruction}
 use Rattle.eif_body_rules.specs.Settings.{Setting, fault, fits, Meaning, test_local, entity, feature, unknown, meaning}
 use Rattle.eif_valid_bodies.specs.Valid.{Valid, HasType, TestsTyped}
 use Rattle.eif_valid_bodies.proofs.Parts.{no_more, no_value, HasValue, has, if_has, unless_has, part_clean, rule_clean, join_next, rule_has}

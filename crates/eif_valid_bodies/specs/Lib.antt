@@ -1,4 +1,5 @@
 pub mod SetReads
+pub mod TestNames
 pub mod Valid
 pub mod ValidBodies
 pub mod ValidCalls

@@ -1,8 +1,6 @@
 -- What holds of declarations without faults, in classes and systems of given classes.
-use Rattle.std.specs.Prelude.{◌≡◌, ℕ, ◌+◌, true, false, List, [], map, Option, Some, slice_get}
+use Rattle.std.specs.Prelude.{◌≡◌, ℕ, ◌+◌, false, List, [], map, Some, slice_get}
 use Rattle.eif_base.specs.Numbering.{IsNumbering}
-use Rattle.eif_tree.specs.declared.tree.NameAt.{NameAt}
-use Rattle.eif_tree.specs.Members.{declarations, has_name}
 use Rattle.eif_tree.specs.Tree.{Inss, KindT, routine, DeclT, ClassT}
 use Rattle.eif_system.specs.Kernel.{kernel_count}
 use Rattle.eif_system.specs.Universe.{universe}

@@ -2,6 +2,7 @@
 #![tactic(auto)]
 
 ghost use Rattle.eif_valid_bodies.specs.SetReads.{ReadsAreSet};
+ghost use Rattle.eif_valid_bodies.specs.TestNames.{OwnTestsAreTold, TestsAreFree};
 ghost use Rattle.eif_valid_bodies.specs.Valid.{NoFaultIsTyped};
 ghost use Rattle.eif_valid_bodies.specs.ValidBodies.{NoFaultInBodies};
 ghost use Rattle.eif_valid_bodies.specs.ValidCalls.{ValidArguments, ValidCalls};
@@ -24,6 +25,13 @@ pub fn valid_nodes()
 /// has each test that it tells of.
 pub fn no_fault_is_typed()
     ensures { NoFaultIsTyped }
+{}
+
+/// The local of each object test in an expression without faults denotes nothing where the expression
+/// stands, and no earlier test in it has its name; and an expression tells of its own tests alone.
+pub fn tests_are_free()
+    ensures free { TestsAreFree }
+    ensures own { OwnTestsAreTold }
 {}
 
 /// Where no read is found unset, each read of a local or of Result is of one that is set.
