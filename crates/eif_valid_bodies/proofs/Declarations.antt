@@ -30,7 +30,8 @@ use Rattle.eif_valid_bodies.proofs.Instructions.{body_valid}
 -- ---- lists
 
 -- none in all is none of each
-each_empty : {A B : Type 0} (f : A → List B) (xs : List A) (i : ℕ) (x : A) → flat_map f xs ≡ [] → slice_get xs i ≡ Some x
+each_empty : {A B : Type 0} (f : A → List B) (xs : List A) (i : ℕ) (x : A) → flat_map f xs ≡ []
+    → slice_get xs i ≡ Some x
     → f x ≡ []
 each_empty f [] i x h at = absurd (no_value at)
 each_empty f (y ∷ xs) zero x h at = ap f (sym (some_same at)) ∙ left_empty (f y) (flat_map f xs) h
@@ -109,7 +110,8 @@ module _ (s : Setting) (none : entity_faults s ≡ []) where
       let zero_plus : 0 + i ≡ i = omega arith in
       let here : slice_get (enumerate_from 0 s.entities) i ≡ Some (i, e) =
       numbered 0 s.entities i e at ∙ ap (λ m. Some (m, e)) zero_plus in
-      let none_here : entity_rule s (i, e) ≡ [] = each_empty (entity_rule s) (enumerate_from 0 s.entities) i (i, e) none here in
+      let none_here : entity_rule s (i, e) ≡ [] =
+      each_empty (entity_rule s) (enumerate_from 0 s.entities) i (i, e) none here in
       let first : names_feature s e ≡ [] = left_empty (names_feature s e) _ none_here in
       let second : repeated_entity s (take i s.entities) e ≡ [] = right_empty (names_feature s e) _ none_here in
       (kept (has_feature s.line e.name) _ first, kept _ _ second)
@@ -122,7 +124,8 @@ module _ (s : Setting) (none : entity_faults s ≡ []) where
 
   later_apart : (i j : ℕ) (x : List ℕ) → i < j → Named s.entities i x → Named s.entities j x → ⊥
   later_apart i j x le m n =
-      let none_before : list_any (λ d. bytes_eq d.name n.it.name) (take j s.entities) ≡ false = (rule_kept j n.it n.at).1 in
+      let none_before : list_any (λ d. bytes_eq d.name n.it.name) (take j s.entities) ≡ false =
+      (rule_kept j n.it n.at).1 in
       apart s.entities i j m.it n.it.name le m.at none_before (m.is ∙ sym n.is)
 
   three_ways : (i j : ℕ) → (i < j) ⊎ ((i ≡ j) ⊎ (j < i))
@@ -185,12 +188,14 @@ declaration_valid u d c x n is h =
 
 pub class_valid : (u : List ClassT) (d : ℕ) (c : ClassT) → class_body_faults u d c ≡ [] → ValidClass u d c
 class_valid u d c h n x is =
-    let f : Found (λ x. has_name x.names n) (declarations c) x = found (λ x. has_name x.names n) (declarations c) x is in
+    let f : Found (λ x. has_name x.names n) (declarations c) x =
+    found (λ x. has_name x.names n) (declarations c) x is in
     declaration_valid u d c x n f.passes
     (each_empty (declaration_faults u d c) (declarations c) f.i x
     (left_empty (flat_map (declaration_faults u d c) (declarations c)) _ h) f.at)
 
-pub given_valid : (given : List ClassT) → IsNone (GivenBodiesBroken given) → (i : ℕ) (c : ClassT) → slice_get given i ≡ Some c
+pub given_valid : (given : List ClassT) → IsNone (GivenBodiesBroken given) → (i : ℕ) (c : ClassT)
+    → slice_get given i ≡ Some c
     → ValidClass (universe given) (kernel_count + i) c
 given_valid given none i c at =
     class_valid (universe given) (kernel_count + i) c

@@ -58,7 +58,8 @@ condition_of s k set e t h =
     let whole : expression_faults s k set e ≡ [] = left_empty (expression_faults s k set e) _ h in
     let a : TypedExpression s k [] e = typed_expression s k [] e t (left_empty (faults_of s k e) _ whole) in
     let rule : no_boolean s (place_of e) a.type ≡ [] =
-    rule_empty (type_of s k e) a.type (no_boolean s (place_of e)) a.valid.value (right_empty (expression_faults s k set e) _ h) in
+    rule_empty (type_of s k e) a.type (no_boolean s (place_of e)) a.valid.value
+    (right_empty (expression_faults s k set e) _ h) in
     record {
       valid =
           record {
@@ -82,7 +83,8 @@ assign_valid s k set x e t h =
     let a : ValidExpression s k set e = expression_valid s k set e t (left_empty (expression_faults s k set e) _ h) in
     let to : AssignedTo s k x a.type =
     assigned_to s k x (place_of e) a.type
-    (rule_empty (type_of s k e) a.type (assignment_faults s k x (place_of e)) a.valid.value (right_empty (expression_faults s k set e) _ h)) in
+    (rule_empty (type_of s k e) a.type (assignment_faults s k x (place_of e)) a.valid.value
+    (right_empty (expression_faults s k set e) _ h)) in
     record {
       source = a.type;
       target = to.target;
@@ -106,7 +108,8 @@ name_stated : (s : Setting) (k : List Fact) (p : Place) (x : List ℕ) (args : E
 name_stated s k p x args t h =
     let j : Judged (List Argument) = judge_all s k [] args in
     let a : TypedArguments s k [] args =
-    typed_arguments s k [] args t (part_clean j (name_rule s k p x) (part_clean (j ▹ name_rule s k p x) (as_instruction s p p x) h)) in
+    typed_arguments s k [] args t
+    (part_clean j (name_rule s k p x) (part_clean (j ▹ name_rule s k p x) (as_instruction s p p x) h)) in
     stated_name s k p x args
     (stated_has s j (name_rule s k p x) p p x a.given a.valid (name_has s k p x a.given t) h).valid
 
@@ -115,7 +118,8 @@ precursor_stated : (s : Setting) (k : List Fact) (p : Place) (x : Option NameAt)
 precursor_stated s k p x args t h =
     let j : Judged (List Argument) = judge_all s k [] args in
     let a : TypedArguments s k [] args =
-    typed_arguments s k [] args t (part_clean j (precursor_rule s p x) (part_clean (j ▹ precursor_rule s p x) (as_instruction s p p s.feature) h)) in
+    typed_arguments s k [] args t
+    (part_clean j (precursor_rule s p x) (part_clean (j ▹ precursor_rule s p x) (as_instruction s p p s.feature) h)) in
     stated_precursor s k p x args
     (stated_has s j (precursor_rule s p x) p p s.feature a.given a.valid (precursor_has s p x a.given) h).valid
 
@@ -131,7 +135,8 @@ call_stated s k p e x args t h =
     let b : TypedArguments s k (test_names e) args =
     typed_arguments s k (test_names e) args t (second_clean target rest clean) in
     stated_call s k p e x args
-    (stated_has s (target ⊗ rest) rule p x.place x.name (a.type, b.given) (join_both target rest a.type b.given a.valid b.valid)
+    (stated_has s (target ⊗ rest) rule p x.place x.name (a.type, b.given)
+    (join_both target rest a.type b.given a.valid b.valid)
     (call_rule_has s (place_of e) x a.type b.given) h).valid
 
 statement_valid : (s : Setting) (k : List Fact) (set : List (List ℕ)) (e : Ex) → TestsTyped k
@@ -142,7 +147,7 @@ statement_valid s k set (unqualified p x args) t h = (
 )
 statement_valid s k set (precursor p x args) t h = (
   precursor_stated s k p x args t (left_empty (call_judged s k (precursor p x args)).faults _ h),
-  set_reads s set k [] (precursor p x args) (right_empty (call_judged s k (precursor p x args)).faults _ h),
+  set_reads_in s set k [] args (right_empty (call_judged s k (precursor p x args)).faults _ h),
 )
 statement_valid s k set (qualified p e x args) t h = (
   call_stated s k p e x args t (left_empty (call_judged s k (qualified p e x args)).faults _ h),
@@ -213,13 +218,15 @@ mutual
   instruction_valid s k set (choose bs o) t h =
       let first : branch_faults s k set bs ≡ [] = left_empty (branch_faults s k set bs) _ h in (
         branches_valid s k set bs t first,
-        otherwise_valid s (known_otherwise s k bs) set o (otherwise_typed s k set bs t first) (right_empty (branch_faults s k set bs) _ h),
+        otherwise_valid s (known_otherwise s k bs) set o (otherwise_typed s k set bs t first)
+            (right_empty (branch_faults s k set bs) _ h),
       )
   instruction_valid s k set (loop start claims exit body variant) t h =
       let at : List Fact = known_in_loop s k start body in
       let later : List (List ℕ) = set_after_all set start in
       let each : (compound_faults s k set start ≡ []) × (loop_faults s at later claims exit variant ≡ [])
-      × (compound_faults s (known_where s at false exit) later body ≡ []) = three_empty (compound_faults s k set start) _ _ h in
+      × (compound_faults s (known_where s at false exit) later body ≡ []) =
+      three_empty (compound_faults s k set start) _ _ h in
       let tests : (_ ≡ []) × (condition_faults s at later exit ≡ []) × (_ ≡ []) = three_empty _ _ _ each.1 in
       let c : Condition s at later exit = condition_of s at later exit (loop_typed s k start body t) tests.1 in (
         compound_valid s k set start t each.0,
@@ -233,7 +240,8 @@ mutual
   compound_valid s k set no_inss t h = tt
   compound_valid s k set (and_ins i is) t h = (
     instruction_valid s k set i t (left_empty (instruction_faults s k set i) _ h),
-    compound_valid s (known_after s k i) (set_after set i) is (after_typed s k i t) (right_empty (instruction_faults s k set i) _ h),
+    compound_valid s (known_after s k i) (set_after set i) is (after_typed s k i t)
+        (right_empty (instruction_faults s k set i) _ h),
   )
 
   branches_valid : (s : Setting) (k : List Fact) (set : List (List ℕ)) (bs : Branches) → TestsTyped k

@@ -155,7 +155,8 @@ module _ (s : Setting) where
   is_free : (k : List Fact) (x : List ℕ) → denotes (meaning s k x) ≡ false → IsFree s k x
   unfolding meaning
   is_free k x h =
-      let a : (usable_test k x ≡ None) × (denotes (or_entity (or_feature (signature s.universe s.line x)) (entity_of s x)) ≡ false) =
+      let a : (usable_test k x ≡ None)
+      × (denotes (or_entity (or_feature (signature s.universe s.line x)) (entity_of s x)) ≡ false) =
       no_test_by (usable_test k x) _ h in
       let b : (entity_of s x ≡ None) × (denotes (or_feature (signature s.universe s.line x)) ≡ false) =
       no_entity_by (entity_of s x) _ a.1 in
@@ -172,7 +173,8 @@ module _ (s : Setting) where
   unmarked None h = tt
   unmarked (Some t) h = kept _ _ h
 
-  none_wrong : (k : List Fact) (n : List (List ℕ)) (w : Option TypeT) (local : Option NameAt) → test_faults s k n w local ≡ []
+  none_wrong : (k : List Fact) (n : List (List ℕ)) (w : Option TypeT) (local : Option NameAt)
+      → test_faults s k n w local ≡ []
       → IsFreeLocal s k n local × IsUnmarked w
   unfolding test_faults
   none_wrong k n w local h =
@@ -180,12 +182,14 @@ module _ (s : Setting) where
       none_first _ _ h in
       (free_local k n local each.0, unmarked w each.1)
 
-  pub valid_test : (k : List Fact) (n : List (List ℕ)) (p : Place) (w : Option TypeT) (local : Option NameAt) (e : Ex) (t : TyT)
+  pub valid_test : (k : List Fact) (n : List (List ℕ)) (p : Place) (w : Option TypeT) (local : Option NameAt) (e : Ex)
+      (t : TyT)
       → Valid (judge s k n (test p w local e)) t → ValidTest s k n p w local e t
   valid_test k n p w local e t v =
       let tested : Judged TyT = judge s k (n ++ local_names local) e in
       let rule : ValidNext tested (test_rule (test_faults s k n w local)) t = valid_next tested _ t v in
-      let same : (test_faults s k n w local ≡ []) × (t ≡ boolean) = unless_is (test_faults s k n w local) boolean t rule.judged in
+      let same : (test_faults s k n w local ≡ []) × (t ≡ boolean) =
+      unless_is (test_faults s k n w local) boolean t rule.judged in
       let none : IsFreeLocal s k n local × IsUnmarked w = none_wrong k n w local same.0 in
       record {
         tested = rule.value;
@@ -229,7 +233,8 @@ module _ (s : Setting) where
   created_by : (c : Creation) → creation_faults s c ≡ [] → CreatedClass c × Creator c
   unfolding creation_faults
   created_by c h =
-      let a : (wrong_created_type s c ≡ []) × (first_of (deferred_class s c) (first_of (basic_class s c) (no_creator s c)) ≡ []) =
+      let a : (wrong_created_type s c ≡ [])
+      × (first_of (deferred_class s c) (first_of (basic_class s c) (no_creator s c)) ≡ []) =
       none_first _ _ h in
       let b : (deferred_class s c ≡ []) × (first_of (basic_class s c) (no_creator s c) ≡ []) = none_first _ _ a.1 in
       let d : (basic_class s c ≡ []) × (no_creator s c ≡ []) = none_first _ _ b.1 in
@@ -247,7 +252,8 @@ module _ (s : Setting) where
   called_by_creation c args (Some g) o t is v r =
       let call : Called s args (with_actuals (actuals_in c.type) g) o =
       valid_called s _ _ args (with_actuals (actuals_in c.type) g) o v in
-      let short : (o.is_long ≡ false) × (t ≡ attached_form c.type) = long_is s c.place o.is_long (attached_form c.type) t r in
+      let short : (o.is_long ≡ false) × (t ≡ attached_form c.type) =
+      long_is s c.place o.is_long (attached_form c.type) t r in
       (record { signed = g; found = is; called = call.fit_if (ap (λ o. o.is_long) (sym call.is) ∙ short.0) }, short.1)
 
   pub record Made (c : Creation) (wrong : List Fault) (args : List Argument) (t : TyT) : Type 0 where
@@ -256,11 +262,13 @@ module _ (s : Setting) where
 
   -- the rule of a creation, with all that is judged of it before its call
   pub made_by : (c : Creation) (wrong : List Fault) (args : List Argument) (t : TyT)
-      → (wrong ≡ [] → creation_faults s c ≡ []) → Valid (creation_rule s c wrong args) t → (wrong ≡ []) × Made c wrong args t
+      → (wrong ≡ [] → creation_faults s c ≡ []) → Valid (creation_rule s c wrong args) t
+      → (wrong ≡ []) × Made c wrong args t
   unfolding creation_rule
   made_by c wrong args t right v =
       let call : Judged Outcome = creator_call s c args (creator_signature s c) in
-      let judged : (wrong ≡ []) × Valid (call ▹ creation_type s c) t = unless_judged wrong (call ▹ creation_type s c) t v in
+      let judged : (wrong ≡ []) × Valid (call ▹ creation_type s c) t =
+      unless_judged wrong (call ▹ creation_type s c) t v in
       let rule : ValidNext call (creation_type s c) t = valid_next call (creation_type s c) t judged.1 in
       let by : CreatedClass c × Creator c = created_by c (right judged.0) in
       let it : CreatorCalled c args × (t ≡ attached_form c.type) =
@@ -278,14 +286,17 @@ module _ (s : Setting) where
                 reference = by.0.reference;
                 named = by.1.named;
                 is_one = by.1.is_one;
-                found = ap (λ n. option_and_then (signature s.universe (created_line s c)) n) (sym by.1.named) ∙ it.0.found;
+                found =
+                    ap (λ n. option_and_then (signature s.universe (created_line s c)) n) (sym by.1.named)
+                    ∙ it.0.found;
                 called = it.0.called;
               };
           is = it.1;
         },
       )
 
-  pub valid_creation : (k : List Fact) (n : List (List ℕ)) (p : Place) (w : TypeT) (x : Option NameAt) (args : Exs) (t : TyT)
+  pub valid_creation : (k : List Fact) (n : List (List ℕ)) (p : Place) (w : TypeT) (x : Option NameAt) (args : Exs)
+      (t : TyT)
       → Valid (judge s k n (creation p w x args)) t → ValidCreation s k n p w x args t
   valid_creation k n p w x args t v =
       let c : Creation = of_written s code.Vgce p w x in

@@ -95,14 +95,16 @@ module _ (s : Setting) where
   source_fits : (x : NameAt) (p : Place) (t u : TyT) (o : Option TyT) → o ≡ Some u
       → option_map_or (unfit_source s x p t) o [] ≡ [] → fits s t u ≡ true
   source_fits x p t u o is h =
-      not_kept (fits s t u) (fault s code.Vbar 2 p x.name) (ap (λ o. option_map_or (unfit_source s x p t) o []) (sym is) ∙ h)
+      not_kept (fits s t u) (fault s code.Vbar 2 p x.name)
+      (ap (λ o. option_map_or (unfit_source s x p t) o []) (sym is) ∙ h)
 
   pub record AssignedTo (k : List Fact) (x : NameAt) (t : TyT) : Type 0 where
     pub target : TyT
     pub is_target : IsTarget s k x.name target
     pub fit : fits s t target ≡ true
 
-  pub assigned_to : (k : List Fact) (x : NameAt) (p : Place) (t : TyT) → assignment_faults s k x p t ≡ [] → AssignedTo k x t
+  pub assigned_to : (k : List Fact) (x : NameAt) (p : Place) (t : TyT) → assignment_faults s k x p t ≡ []
+      → AssignedTo k x t
   unfolding assignment_faults
   assigned_to k x p t h =
       let a : HasValue (target_rule s k x) = target_has k x (left_empty _ _ h) in
@@ -110,7 +112,9 @@ module _ (s : Setting) where
       record {
         target = a.it;
         is_target = is;
-        fit = source_fits x p t a.it (target_type s k x.name) (type_is k x.name a.it is) (right_empty (target_rule s k x).faults _ h);
+        fit =
+            source_fits x p t a.it (target_type s k x.name) (type_is k x.name a.it is)
+            (right_empty (target_rule s k x).faults _ h);
       }
 
   -- ---- creations
@@ -135,16 +139,20 @@ module _ (s : Setting) where
       made_by s c wrong args v.it (λ h. (none_first (creation_faults s c) (unfit_type s c x.name t) h).0) v.valid in
       (made.1.created, written_fits c x.name t (none_first (creation_faults s c) (unfit_type s c x.name t) made.0).1)
 
-  pub record CreatedFor (k : List Fact) (p : Place) (w : Option TypeT) (x : NameAt) (y : Option NameAt) (args : List Argument) : Type 0 where
+  pub record CreatedFor
+      (k : List Fact) (p : Place) (w : Option TypeT) (x : NameAt) (y : Option NameAt) (args : List Argument)
+      : Type 0 where
     pub target : TyT
     pub is_target : IsTarget s k x.name target
     pub created : IsCreatedFor s p w y args target
 
-  pub created_at : (k : List Fact) (p : Place) (w : Option TypeT) (x : NameAt) (y : Option NameAt) (args : List Argument)
+  pub created_at : (k : List Fact) (p : Place) (w : Option TypeT) (x : NameAt) (y : Option NameAt)
+      (args : List Argument)
       → (create_instruction_rule s k p w x y args).faults ≡ [] → CreatedFor k p w x y args
   unfolding create_instruction_rule
   created_at k p w x y args h =
-      let a : HasValue (target_rule s k x) = target_has k x (part_clean (target_rule s k x) (created_for s p w x y args) h) in
+      let a : HasValue (target_rule s k x) =
+      target_has k x (part_clean (target_rule s k x) (created_for s p w x y args) h) in
       record {
         target = a.it;
         is_target = target_is k x a.it a.valid;

@@ -66,7 +66,8 @@ local_is local x h = sym ((bytes_eq-Decides x local.name).0 (by_case (bytes_eq x
 
 -- ---- what is usable by more facts
 
-if_none : (b : Bool) (t : Usable) (o : Option Usable) → (if b then Some (earlier t o) else o) ≡ None → (b ≡ false) × (o ≡ None)
+if_none : (b : Bool) (t : Usable) (o : Option Usable) → (if b then Some (earlier t o) else o) ≡ None
+    → (b ≡ false) × (o ≡ None)
 if_none true t o h = cc
 if_none false t o h = (refl, h)
 
@@ -75,10 +76,12 @@ front_none : (a b : List Fact) (x : List ℕ) → usable_test (a ++ b) x ≡ Non
 front_none [] b x h = refl
 front_none (attached y ∷ a) b x h = front_none a b x h
 front_none (usable y t ∷ a) b x h =
-    let each : (bytes_eq y x ≡ false) × (usable_test (a ++ b) x ≡ None) = if_none (bytes_eq y x) t (usable_test (a ++ b) x) h in
+    let each : (bytes_eq y x ≡ false) × (usable_test (a ++ b) x ≡ None) =
+    if_none (bytes_eq y x) t (usable_test (a ++ b) x) h in
     ap (λ c. if c then Some (earlier t (usable_test a x)) else usable_test a x) each.0 ∙ front_none a b x each.1
 
-right_none : (o : Op) (k by_left : List Fact) (x : List ℕ) → usable_test (at_right o k by_left) x ≡ None → usable_test k x ≡ None
+right_none : (o : Op) (k by_left : List Fact) (x : List ℕ) → usable_test (at_right o k by_left) x ≡ None
+    → usable_test k x ≡ None
 right_none o k by_left x h = by_case (is_short o) h
   where
     by_case : (b : Bool) → usable_test (if b then k ++ by_left else k) x ≡ None → usable_test k x ≡ None
@@ -137,7 +140,8 @@ module _ (s : Setting) where
     tests_free k n (test p w local e) t v x h =
         let c : ValidTest s k n p w local e t = valid_test s k n p w local e t v in
         by_side k n (local_names local) (test_names e) x (local_apart k n local x c.free)
-        (λ h. less_apart k n (local_names local) x (tests_free k (n ++ local_names local) e c.tested c.tested_valid x h))
+        (λ h. less_apart k n (local_names local) x
+        (tests_free k (n ++ local_names local) e c.tested c.tested_valid x h))
         (among_either (local_names local) (test_names e) x h)
     tests_free k n (paren p e) t v x h = tests_free k n e t v x h
     tests_free k n (unary p o e) t v x h =
@@ -163,7 +167,8 @@ module _ (s : Setting) where
 
   -- ---- what is told
 
-  both_none : (a b : List Fact) (x : List ℕ) → usable_test a x ≡ None → usable_test b x ≡ None → usable_test (a ++ b) x ≡ None
+  both_none : (a b : List Fact) (x : List ℕ) → usable_test a x ≡ None → usable_test b x ≡ None
+      → usable_test (a ++ b) x ≡ None
   both_none [] b x p q = q
   both_none (attached y ∷ a) b x p q = both_none a b x p q
   both_none (usable y t ∷ a) b x p q =
@@ -175,7 +180,8 @@ module _ (s : Setting) where
   attached_none [] x = refl
   attached_none (y ∷ xs) x = attached_none xs x
 
-  where_none : (b : Bool) (a : List Fact) (x : List ℕ) → usable_test a x ≡ None → usable_test (if b then a else []) x ≡ None
+  where_none : (b : Bool) (a : List Fact) (x : List ℕ) → usable_test a x ≡ None
+      → usable_test (if b then a else []) x ≡ None
   where_none true a x h = h
   where_none false a x h = refl
 
@@ -191,7 +197,8 @@ module _ (s : Setting) where
       by_case true is =
           absurd (true_is_false (sym ((bytes_eq-Decides x y).1 (sym ((bytes_eq-Decides y x).0 is))) ∙ h))
 
-  bound_none : (p : Place) (local : Option NameAt) (o : Option TyT) (x : List ℕ) → is_among (local_names local) x ≡ false
+  bound_none : (p : Place) (local : Option NameAt) (o : Option TyT) (x : List ℕ)
+      → is_among (local_names local) x ≡ false
       → usable_test (bound_local p local o) x ≡ None
   unfolding bound_local
   bound_none p None o x h = refl

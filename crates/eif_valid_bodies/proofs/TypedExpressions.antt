@@ -78,14 +78,16 @@ module _ (s : Setting) where
       let tested : Judged TyT = judge s k (n ++ local_names local) e in
       let bound : List Fact = bound_local p local (local_type s w tested.value) in
       let v : HasValue (judge s k n (test p w local e)) =
-      rule_has tested (test_rule (test_faults s k n w local)) a.type a.valid (unless_has (test_faults s k n w local) boolean) h in
+      rule_has tested (test_rule (test_faults s k n w local)) a.type a.valid
+      (unless_has (test_faults s k n w local) boolean) h in
       record {
         type = v.it;
         valid = v.valid;
         told =
             λ b. typed_if b (told_by_test s e bound)
             (typed_both (all_attached (tested_name (is_testable s) e)) bound
-            (attached_typed (tested_name (is_testable s) e)) (bound_typed s p local w tested.value a.type a.valid.value));
+            (attached_typed (tested_name (is_testable s) e))
+            (bound_typed s p local w tested.value a.type a.valid.value));
       }
 
   unary_expression_typed : (k : List Fact) (n : List (List ℕ)) (p : Place) (o : Op) (e : Ex)
@@ -110,7 +112,8 @@ module _ (s : Setting) where
       let first : Judged TyT = judge s k n left in
       let second : Judged TyT = judge s (at k n o left) (n ++ test_names left) right in
       let v : HasValue (judge s k n (binary p o q left right)) =
-      rule_has (first ⊗ second) (binary_rule s o q) (a.type, b.type) (join_both first second a.type b.type a.valid b.valid)
+      rule_has (first ⊗ second) (binary_rule s o q) (a.type, b.type)
+      (join_both first second a.type b.type a.valid b.valid)
       (binary_has s o q (a.type, b.type)) h in
       record {
         type = v.it;
@@ -210,7 +213,8 @@ module _ (s : Setting) where
         (typed_expression (at k n o left) (n ++ test_names left) right (at_typed k n o left t a)
         (operands_clean k n p o q left right h).1)
 
-    pub typed_arguments : (k : List Fact) (n : List (List ℕ)) (es : Exs) → TestsTyped k → (judge_all s k n es).faults ≡ []
+    pub typed_arguments : (k : List Fact) (n : List (List ℕ)) (es : Exs) → TestsTyped k
+        → (judge_all s k n es).faults ≡ []
         → TypedArguments s k n es
     typed_arguments k n no_exs t h = record { given = []; valid = record { value = refl; faults = refl } }
     typed_arguments k n (and_ex e es) t h =

@@ -38,7 +38,8 @@ typed_of : (b : Bool) (a c : List Fact) → TestsTyped a → TestsTyped c → Te
 typed_of true a c p q = p
 typed_of false a c p q = q
 
-pub at_right_typed : (o : Op) (k by_left : List Fact) → TestsTyped k → TestsTyped by_left → TestsTyped (at_right o k by_left)
+pub at_right_typed : (o : Op) (k by_left : List Fact) → TestsTyped k → TestsTyped by_left
+    → TestsTyped (at_right o k by_left)
 at_right_typed o k by_left p q = typed_of (is_short o) (k ++ by_left) k (typed_both k by_left p q) p
 
 pub unary_typed : (o : Op) (a : List Fact) → TestsTyped a → TestsTyped (told_by_unary o a)
@@ -55,7 +56,8 @@ local_typed s None None t h = absurd (no_value h)
 local_typed s None (Some u) t h = record { type = _; is = refl }
 local_typed s (Some w) o t h = record { type = _; is = refl }
 
-pub bound_typed : (s : Setting) (p : Place) (local : Option NameAt) (w : Option TypeT) (o : Option TyT) (t : TyT) → o ≡ Some t
+pub bound_typed : (s : Setting) (p : Place) (local : Option NameAt) (w : Option TypeT) (o : Option TyT) (t : TyT)
+    → o ≡ Some t
     → TestsTyped (bound_local p local (local_type s w o))
 unfolding bound_local
 bound_typed s p None w o t h = tt
@@ -109,7 +111,8 @@ meaning_typed s k x p =
 
 -- ---- along instructions
 
-kept_if : (b : Bool) (f : Fact) (k : List Fact) → TestsTyped (f ∷ []) → TestsTyped k → TestsTyped (if b then f ∷ k else k)
+kept_if : (b : Bool) (f : Fact) (k : List Fact) → TestsTyped (f ∷ []) → TestsTyped k
+    → TestsTyped (if b then f ∷ k else k)
 kept_if true f k p q = typed_both (f ∷ []) k p q
 kept_if false f k p q = q
 
@@ -144,6 +147,7 @@ pub after_all_typed : (s : Setting) (k : List Fact) (is : Inss) → TestsTyped k
 after_all_typed s k no_inss p = p
 after_all_typed s k (and_ins i is) p = after_all_typed s (known_after s k i) is (after_typed s k i p)
 
-pub loop_typed : (s : Setting) (k : List Fact) (start body : Inss) → TestsTyped k → TestsTyped (known_in_loop s k start body)
+pub loop_typed : (s : Setting) (k : List Fact) (start body : Inss) → TestsTyped k
+    → TestsTyped (known_in_loop s k start body)
 loop_typed s k start body p =
     without_typed s (assigned_in body) (known_after_all s k start) (after_all_typed s k start p)

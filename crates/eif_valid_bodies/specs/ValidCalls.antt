@@ -22,7 +22,9 @@ use Rattle.eif_valid_bodies.specs.Valid.{Valid, HasType}
 -- ---- arguments
 
 -- the first, and those behind it, by the judgement that they have
-pub record FirstArgument (e : Ex) (args : List Argument) (First : TyT → Type 0) (Rest : List Argument → Type 0) : Type 0 where
+pub record FirstArgument
+    (e : Ex) (args : List Argument) (First : TyT → Type 0) (Rest : List Argument → Type 0)
+    : Type 0 where
   pub type : TyT
   pub rest : List Argument
   pub first_valid : First type

@@ -139,7 +139,8 @@ pub record ValidLeaves : Type 0 where
 
 pub record ValidNodes : Type 0 where
   pub creation_of :
-      (s : Setting) (k : List Fact) (n : List (List ℕ)) (p : Place) (w : TypeT) (x : Option NameAt) (args : Exs) (t : TyT)
+      (s : Setting) (k : List Fact) (n : List (List ℕ)) (p : Place) (w : TypeT) (x : Option NameAt) (args : Exs)
+      (t : TyT)
       → Valid (judge s k n (creation p w x args)) t → ValidCreation s k n p w x args t
   pub test_of :
       (s : Setting) (k : List Fact) (n : List (List ℕ)) (p : Place) (w : Option TypeT) (local : Option NameAt) (e : Ex)
