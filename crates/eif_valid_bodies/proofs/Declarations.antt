@@ -1,5 +1,5 @@
 -- Declarations of classes without faults are valid.
-use Rattle.std.proofs.Common.{arith, ◌≡◌, ℕ, zero, suc, ◌+◌, ◌<◌, Bool, true, false, List, [], ◌∷◌, ◌++◌, map, Option, Some, None, refl, sym, ap, ◌∙◌, ◌⊎◌, inl, inr}
+use Rattle.std.proofs.Common.{arith, ◌≡◌, ℕ, zero, suc, ◌+◌, ◌<◌, ◌≤◌, Bool, true, false, List, [], ◌∷◌, ◌++◌, map, Option, Some, None, refl, sym, ap, subst, ◌∙◌, ◌⊎◌, inl, inr}
 use Rattle.std.specs.Prelude.{◌||◌, if◌then◌else◌, flat_map, take, slice_get}
 use Rattle.std.specs.List.{enumerate_from, find, list_any}
 use Rattle.std.specs.Option.{option_map_or}
@@ -11,7 +11,7 @@ use Rattle.eif_base.specs.Numbering.{is_among, IsNumbering}
 use Rattle.eif_tree.specs.declared.tree.NameAt.{NameAt}
 use Rattle.eif_tree.specs.Members.{declarations, has_name, result_name}
 use Rattle.eif_tree.specs.Tree.{Inss, KindT, attribute, constant, deferred_body, routine, DeclT, ClassT}
-use Rattle.eif_system.specs.Kernel.{kernel_count}
+use Rattle.eif_system.specs.Kernel.{kernel, kernel_count}
 use Rattle.eif_system.specs.Universe.{universe}
 use Rattle.eif_classes.specs.Features.{has_feature}
 use Rattle.eif_classes.specs.Types.{TyT, is_self_initialising}
@@ -194,10 +194,27 @@ class_valid u d c h n x is =
     (each_empty (declaration_faults u d c) (declarations c) f.i x
     (left_empty (flat_map (declaration_faults u d c) (declarations c)) _ h) f.at)
 
-pub given_valid : (given : List ClassT) → IsNone (GivenBodiesBroken given) → (i : ℕ) (c : ClassT)
-    → slice_get given i ≡ Some c
-    → ValidClass (universe given) (kernel_count + i) c
+given_valid : (given : List ClassT) → IsNone (GivenBodiesBroken given) → (i : ℕ) (c : ClassT)
+    → slice_get given i ≡ Some c → ValidClass (universe given) (kernel_count + i) c
 given_valid given none i c at =
     class_valid (universe given) (kernel_count + i) c
     (each_empty (numbered_body_faults (universe given)) (enumerate_from kernel_count given) i (kernel_count + i, c)
     (none_at_all (body_faults given) none) (numbered kernel_count given i c at))
+
+-- a class behind the kernel's is a given one
+behind : (given : List ClassT) (d : ℕ) (c : ClassT) → kernel_count ≤ d → slice_get (universe given) d ≡ Some c
+    → (i : ℕ) × (kernel_count + i ≡ d) × (slice_get given i ≡ Some c)
+unfolding kernel
+behind given (suc (suc (suc (suc (suc (suc i)))))) c le at = (i, omega arith, at)
+behind given zero c le at = let no : ⊥ = omega arith in absurd no
+behind given (suc zero) c le at = let no : ⊥ = omega arith in absurd no
+behind given (suc (suc zero)) c le at = let no : ⊥ = omega arith in absurd no
+behind given (suc (suc (suc zero))) c le at = let no : ⊥ = omega arith in absurd no
+behind given (suc (suc (suc (suc zero)))) c le at = let no : ⊥ = omega arith in absurd no
+behind given (suc (suc (suc (suc (suc zero))))) c le at = let no : ⊥ = omega arith in absurd no
+
+pub numbered_valid : (given : List ClassT) → IsNone (GivenBodiesBroken given) → (d : ℕ) (c : ClassT) → kernel_count ≤ d
+    → slice_get (universe given) d ≡ Some c → ValidClass (universe given) d c
+numbered_valid given none d c le at =
+    let b : (i : ℕ) × (kernel_count + i ≡ d) × (slice_get given i ≡ Some c) = behind given d c le at in
+    subst (λ d. ValidClass (universe given) d c) b.1 (given_valid given none b.0 c b.2)
