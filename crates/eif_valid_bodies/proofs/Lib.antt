@@ -9,3 +9,4 @@ pub mod Targets
 pub mod Instructions
 pub mod Declarations
 pub mod TestsFree
+pub mod Staying

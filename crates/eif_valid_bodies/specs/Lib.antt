@@ -1,3 +1,4 @@
+pub mod KnownStays
 pub mod SetReads
 pub mod TestNames
 pub mod Valid

@@ -1,6 +1,7 @@
 //! What bodies without faults say of each of their nodes. Each law is a clause of a function that does nothing.
 #![tactic(auto)]
 
+ghost use Rattle.eif_valid_bodies.specs.KnownStays.{KnownStays};
 ghost use Rattle.eif_valid_bodies.specs.SetReads.{ReadsAreSet};
 ghost use Rattle.eif_valid_bodies.specs.TestNames.{OwnTestsAreTold, TestsAreFree};
 ghost use Rattle.eif_valid_bodies.specs.Valid.{NoFaultIsTyped};
@@ -43,6 +44,12 @@ pub fn reads_are_set()
 pub fn no_fault_is_valid()
     ensures valid { NoFaultIsValid }
     ensures typed { TestsStayTyped }
+{}
+
+/// What is known before a condition without faults stays known behind it, and what is known before an
+/// instruction but for the locals that it assigns; what is known in a loop is so at each turn.
+pub fn known_stays()
+    ensures { KnownStays }
 {}
 
 /// In a class without faults in its bodies each declaration has a valid body, and names for its
