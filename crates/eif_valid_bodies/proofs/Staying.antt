@@ -8,7 +8,7 @@ use Rattle.eif_base.specs.Numbering.{is_among}
 use Rattle.eif_tree.specs.Tree.{Ex, Exs, Ins, assign, call, create, choose, loop, check, Inss, no_inss, and_ins, Branches, no_branches, and_branch, Otherwise, no_else, else_part}
 use Rattle.eif_classes.specs.Types.{TyT}
 use Rattle.eif_body_rules.specs.ExpressionTypes.{judge, type_of, told}
-use Rattle.eif_body_rules.specs.Facts.{Fact, attached, usable, Usable, is_known_attached, earlier, usable_test, is_kept, forgotten}
+use Rattle.eif_body_rules.specs.Facts.{Fact, attached, usable, Usable, is_known_attached, earlier, usable_test, forgotten}
 use Rattle.eif_body_rules.specs.KnownFacts.{assigned, assigned_in, assigned_by_branches, assigned_otherwise, without, learned, has_attached_type, known_after, known_after_all, known_in_loop, known_where}
 use Rattle.eif_body_rules.specs.Settings.{Setting, is_local}
 use Rattle.eif_body_rules.specs.TestRules.{test_names}
@@ -46,7 +46,8 @@ attached_kept true y k x = refl
 attached_kept false y k x = refl
 
 -- tests stay
-forgotten_usable : (gone : List ℕ → Bool) (k : List Fact) (x : List ℕ) → usable_test (forgotten gone k) x ≡ usable_test k x
+forgotten_usable : (gone : List ℕ → Bool) (k : List Fact) (x : List ℕ)
+    → usable_test (forgotten gone k) x ≡ usable_test k x
 forgotten_usable gone [] x = refl
 forgotten_usable gone (attached y ∷ k) x =
     attached_kept (not (gone y)) y (forgotten gone k) x ∙ forgotten_usable gone k x
@@ -70,7 +71,8 @@ dropped gone y x false true known now eq is h = h
 dropped gone y x false false known now eq is h = h
 
 attached_if : (b : Bool) (y : List ℕ) (k : List Fact) (x : List ℕ)
-    → is_known_attached (if b then attached y ∷ k else k) x ≡ (if b then bytes_eq y x || is_known_attached k x else is_known_attached k x)
+    → is_known_attached (if b then attached y ∷ k else k) x
+    ≡ (if b then bytes_eq y x || is_known_attached k x else is_known_attached k x)
 attached_if true y k x = refl
 attached_if false y k x = refl
 
@@ -79,7 +81,8 @@ forgotten_attached : (gone : List ℕ → Bool) (k : List Fact) (x : List ℕ)
 forgotten_attached gone [] x = refl
 forgotten_attached gone (attached y ∷ k) x =
     attached_if (not (gone y)) y (forgotten gone k) x
-    ∙ dropped gone y x (bytes_eq y x) (gone y) (is_known_attached k x) (is_known_attached (forgotten gone k) x) refl refl
+    ∙ dropped gone y x (bytes_eq y x) (gone y) (is_known_attached k x)
+    (is_known_attached (forgotten gone k) x) refl refl
     (forgotten_attached gone k x)
 forgotten_attached gone (usable y t ∷ k) x = forgotten_attached gone k x
 
@@ -172,7 +175,8 @@ module _ (s : Setting) where
 
   -- ---- conditions
 
-  pub fewer_where : (k : List Fact) (b : Bool) (e : Ex) (t : TyT) → Valid (judge s k [] e) t → Fewer k (known_where s k b e)
+  pub fewer_where : (k : List Fact) (b : Bool) (e : Ex) (t : TyT) → Valid (judge s k [] e) t
+      → Fewer k (known_where s k b e)
   fewer_where k b e t v = record {
     attached = λ x h. both_attached k (told s k b e) x h;
     usable = λ x u h. both_usable k (told s k b e) x (none_told s k [] b e x (no_test x u h)) ∙ h;
@@ -243,7 +247,8 @@ module _ (s : Setting) where
       fewer_without (first ++ rest ++ other) (rest ++ other) k (known_where s k false e)
       (λ x h. joined first rest other x h) (fewer_where k false e t v)
     where
-      joined : (first rest other : List (List ℕ)) (x : List ℕ) → Stays (first ++ rest ++ other) x → Stays (rest ++ other) x
+      joined : (first rest other : List (List ℕ)) (x : List ℕ) → Stays (first ++ rest ++ other) x
+          → Stays (rest ++ other) x
       joined first rest other x h =
           let front : Stays (first ++ rest) x × Stays other x = stays_both (first ++ rest) other x h in
           ap (λ b. not (is_local s x && b)) (list_any-append (bytes_eq x) rest other)
@@ -258,7 +263,8 @@ module _ (s : Setting) where
 
   -- ---- loops
 
-  pub fewer_first : (k : List Fact) (start body : Inss) → Fewer (known_in_loop s k start body) (known_after_all s k start)
+  pub fewer_first : (k : List Fact) (start body : Inss)
+      → Fewer (known_in_loop s k start body) (known_after_all s k start)
   fewer_first k start body = fewer_all (assigned_in body) (known_after_all s k start)
 
   -- what is known without some names is known without them again

@@ -206,7 +206,8 @@ module _ (s : Setting) where
       let u : Usable = record { place = p; type = o } in
       ap (λ b. if b then Some u else None) (differs local.name x (none_of (bytes_eq x local.name) false h).0)
 
-  pub none_told : (k : List Fact) (n : List (List ℕ)) (b : Bool) (e : Ex) (x : List ℕ) → is_among (test_names e) x ≡ false
+  pub none_told : (k : List Fact) (n : List (List ℕ)) (b : Bool) (e : Ex) (x : List ℕ)
+      → is_among (test_names e) x ≡ false
       → usable_test (facts s k n b e) x ≡ None
   none_told k n b (literal p y) x h = refl
   none_told k n b (void_value p) x h = refl
