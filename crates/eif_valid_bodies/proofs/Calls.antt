@@ -2,7 +2,7 @@
 use Rattle.std.proofs.Common.{arith, ◌≡◌, ℕ, Bool, true, false, List, [], ◌∷◌, ◌++◌, length, Option, Some, None, refl, sym, ap, ◌∙◌, ◌==◌}
 use Rattle.std.specs.Prelude.{if◌then◌else◌, not, ◌&&◌, ◌||◌}
 use Rattle.std.specs.List.{list_any}
-use Rattle.std.specs.Option.{option_map, option_map_or}
+use Rattle.std.specs.Option.{option_map}
 use Rattle.std.proofs.lemmas.Bool.Decides.{nat_tests}
 use Rattle.eif_base.specs.declared.code.Code.TheVariants as code
 use Rattle.eif_base.specs.declared.fault.Fault.{Fault}
@@ -13,11 +13,10 @@ use Rattle.eif_tree.specs.Tree.{Ex, unqualified, precursor, qualified, Exs, no_e
 use Rattle.eif_classes.specs.Clients.{is_available}
 use Rattle.eif_classes.specs.Constraints.{is_attached}
 use Rattle.eif_classes.specs.Precursors as versions
-use Rattle.eif_system.specs.Lineage.{Line}
 use Rattle.eif_classes.specs.Signatures.{Signature, SignedEntry, signature, with_actuals}
-use Rattle.eif_classes.specs.Types.{TyT, Actuals}
+use Rattle.eif_classes.specs.Types.{TyT}
 use Rattle.eif_rules.specs.FaultForms.{fault_where}
-use Rattle.eif_body_rules.specs.CallRules.{Argument, wrong_arguments, call_of, read, use_of, name_rule, visible_call, found_call, call_through, base_line, base_actuals, call_rule, version_call, inherited, precursor_rule}
+use Rattle.eif_body_rules.specs.CallRules.{Argument, wrong_arguments, call_of, use_of, name_rule, found_call, call_through, base_line, base_actuals, call_rule, version_call, inherited, precursor_rule}
 use Rattle.eif_body_rules.specs.ExpressionTypes.{judge, judge_all, first_argument}
 use Rattle.eif_body_rules.specs.Facts.{Fact, is_known_attached}
 use Rattle.eif_body_rules.specs.InstructionFaults.{judge_each, call_judged}
@@ -113,7 +112,8 @@ module _ (s : Setting) where
 
   called_by : (b : Bool) (q : Place) (x : List ℕ) (args : List Argument) (g : Signature) (o : Outcome)
       → (length args == length g.arguments) ≡ b
-      → Valid (if b then unless (wrong_arguments s x args g.arguments) (fine (outcome g)) else broken (fault s code.Vuar 1 q x)) o
+      → Valid (if b then unless (wrong_arguments s x args g.arguments) (fine (outcome g))
+      else broken (fault s code.Vuar 1 q x)) o
       → Called args g o
   called_by true q x args g o n v =
       let same : (wrong_arguments s x args g.arguments ≡ []) × (o ≡ outcome g) =
@@ -192,7 +192,8 @@ module _ (s : Setting) where
   entity_gives t None h = cc
   entity_gives t (Some u) h = cc
 
-  meant : (k : List Fact) (q : Place) (x : List ℕ) (args : List Argument) (m : Meaning) (o : Outcome) (result : Option TyT)
+  meant : (k : List Fact) (q : Place) (x : List ℕ) (args : List Argument) (m : Meaning) (o : Outcome)
+      (result : Option TyT)
       → Valid (use_of s k q x args m) o → Results o result → Gives s k x args result m
   meant k q x [] (test_local t) o result v r =
       let gives : a_value t ≡ given result = ap (λ o. o.gives) (some_same v.value) ∙ r.gives in
@@ -212,7 +213,8 @@ module _ (s : Setting) where
   unfolding name_rule
   named k q x args o result v r = meant k q x args (meaning s k x) o result v r
 
-  pub valid_name : (k : List Fact) (n : List (List ℕ)) (p : Place) (x : List ℕ) (args : Exs) (o : Outcome) (result : Option TyT)
+  pub valid_name : (k : List Fact) (n : List (List ℕ)) (p : Place) (x : List ℕ) (args : Exs) (o : Outcome)
+      (result : Option TyT)
       → Valid (judge_all s k n args ▹ name_rule s k p x) o → Results o result → ValidName s k n x args result
   valid_name k n p x args o result v r =
       let rule : ValidNext (judge_all s k n args) (name_rule s k p x) o = valid_next (judge_all s k n args) _ o v in
@@ -245,7 +247,8 @@ module _ (s : Setting) where
   unfolding precursor_rule
   version_at q parent args o result v r = version_by q parent args o result _ refl v r
 
-  pub valid_precursor : (k : List Fact) (n : List (List ℕ)) (p : Place) (parent : Option NameAt) (args : Exs) (o : Outcome)
+  pub valid_precursor : (k : List Fact) (n : List (List ℕ)) (p : Place) (parent : Option NameAt) (args : Exs)
+      (o : Outcome)
       (result : Option TyT)
       → Valid (judge_all s k n args ▹ precursor_rule s p parent) o → Results o result
       → ValidPrecursor s k n parent args result
@@ -279,18 +282,21 @@ module _ (s : Setting) where
 
   found_by : (x : NameAt) (args : List Argument) (t : TyT) (o : Outcome) (result : Option TyT) (g : Option Signature)
       → is_attached s.universe s.number t ≡ true → signature s.universe (base_line s t) x.name ≡ g
-      → Valid (found_call s x args (base_line s t) (option_map (with_actuals (base_actuals s t)) g)) o → Results o result
+      → Valid (found_call s x args (base_line s t) (option_map (with_actuals (base_actuals s t)) g)) o
+      → Results o result
       → FoundCall x args t result
   found_by x args t o result None attached is v r = absurd (no_value v.value)
   found_by x args t o result (Some g) attached is v r =
       let signed : Signature = with_actuals (base_actuals s t) g in
       let c : IsCalled s args signed × (signed.result ≡ result) =
-      called_is args signed o result (available (is_available s.universe (base_line s t) x.name s.number) x args signed o v) r in
+      called_is args signed o result
+      (available (is_available s.universe (base_line s t) x.name s.number) x args signed o v) r in
       record { signed = g; target_attached = attached; found = is; called = c.0; result_is = c.1 }
 
   target_by : (b : Bool) (p : Place) (x : NameAt) (args : List Argument) (t : TyT) (o : Outcome) (result : Option TyT)
       → is_attached s.universe s.number t ≡ b
-      → Valid (if b then call_through s x args (base_actuals s t) (base_line s t) else broken (fault s code.Vuta 1 p x.name)) o
+      → Valid (if b then call_through s x args (base_actuals s t) (base_line s t)
+      else broken (fault s code.Vuta 1 p x.name)) o
       → Results o result → FoundCall x args t result
   target_by true p x args t o result is v r = found_by x args t o result _ is refl v r
   target_by false p x args t o result is v r = absurd (no_value v.value)
@@ -300,13 +306,15 @@ module _ (s : Setting) where
   unfolding call_rule
   found_at p x args t o result v r = target_by (is_attached s.universe s.number t) p x args t o result refl v r
 
-  pub valid_call : (k : List Fact) (n : List (List ℕ)) (e : Ex) (x : NameAt) (args : Exs) (o : Outcome) (result : Option TyT)
+  pub valid_call : (k : List Fact) (n : List (List ℕ)) (e : Ex) (x : NameAt) (args : Exs) (o : Outcome)
+      (result : Option TyT)
       → Valid (judge s k n e ⊗ judge_all s k (n ++ test_names e) args ▹ call_rule s (place_of e) x) o → Results o result
       → ValidCall s k n e x args result
   valid_call k n e x args o result v r =
       let two : ValidTwo (judge s k n e) (judge_all s k (n ++ test_names e) args) (call_rule s (place_of e) x) o =
       valid_two (judge s k n e) (judge_all s k (n ++ test_names e) args) _ o v in
-      let c : FoundCall x two.second two.first result = found_at (place_of e) x two.second two.first o result two.judged r in
+      let c : FoundCall x two.second two.first result =
+      found_at (place_of e) x two.second two.first o result two.judged r in
       record {
         target = two.first;
         given = two.second;

@@ -1,38 +1,37 @@
 -- Declarations of classes without faults are valid.
-use Rattle.std.proofs.Common.{arith, ◌≡◌, ℕ, zero, suc, ◌+◌, ◌<◌, Bool, true, false, List, [], ◌∷◌, ◌++◌, map, Option, Some, None, refl, sym, ap, ◌∙◌, ◌⊎◌, inl, inr}
-use Rattle.std.specs.Prelude.{not, ◌&&◌, ◌||◌, if◌then◌else◌, flat_map, take, slice_get}
+use Rattle.std.proofs.Common.{arith, ◌≡◌, ℕ, zero, suc, ◌+◌, ◌<◌, ◌≤◌, Bool, true, false, List, [], ◌∷◌, ◌++◌, map, Option, Some, None, refl, sym, ap, subst, ◌∙◌, ◌⊎◌, inl, inr}
+use Rattle.std.specs.Prelude.{◌||◌, if◌then◌else◌, flat_map, take, slice_get}
 use Rattle.std.specs.List.{enumerate_from, find, list_any}
 use Rattle.std.specs.Option.{option_map_or}
 use Rattle.std.specs.Str.{bytes_eq}
 use Rattle.std.proofs.lemmas.Slice.Eq.{bytes_eq-Decides}
 use Rattle.eif_base.specs.Appends.{In}
-use Rattle.eif_base.specs.declared.code.Code.TheVariants as code
 use Rattle.eif_base.specs.declared.fault.Fault.{Fault}
 use Rattle.eif_base.specs.Numbering.{is_among, IsNumbering}
 use Rattle.eif_tree.specs.declared.tree.NameAt.{NameAt}
 use Rattle.eif_tree.specs.Members.{declarations, has_name, result_name}
 use Rattle.eif_tree.specs.Tree.{Inss, KindT, attribute, constant, deferred_body, routine, DeclT, ClassT}
-use Rattle.eif_system.specs.Kernel.{kernel_count}
+use Rattle.eif_system.specs.Kernel.{kernel, kernel_count}
 use Rattle.eif_system.specs.Universe.{universe}
-use Rattle.eif_classes.specs.Features.{has_feature, declaration_of}
+use Rattle.eif_classes.specs.Features.{has_feature}
 use Rattle.eif_classes.specs.Types.{TyT, is_self_initialising}
-use Rattle.eif_rules.specs.FaultForms.{fault_where, IsNone}
-use Rattle.eif_body_rules.specs.BodyRules.{in_precondition, in_body, in_postcondition, unset_at_end, unset_result, routine_faults, declaration_faults, invariant_faults, class_body_faults, numbered_body_faults, body_faults, GivenBodiesBroken}
+use Rattle.eif_rules.specs.FaultForms.{IsNone}
+use Rattle.eif_body_rules.specs.BodyRules.{in_precondition, in_body, unset_at_end, unset_result, routine_faults, declaration_faults, class_body_faults, numbered_body_faults, body_faults, GivenBodiesBroken}
 use Rattle.eif_body_rules.specs.EntityRules.{names_feature, repeated_entity, entity_rule, entity_faults}
 use Rattle.eif_body_rules.specs.InstructionFaults.{assertion_faults, compound_faults}
 use Rattle.eif_body_rules.specs.LocalFlow.{set_after_all}
-use Rattle.eif_body_rules.specs.Settings.{Setting, fault, Entity, entity_of}
+use Rattle.eif_body_rules.specs.Settings.{Setting, Entity, entity_of}
 use Rattle.eif_valid_bodies.specs.SetReads.{ResultIsSet}
-use Rattle.eif_valid_bodies.specs.ValidBodies.{ValidEntities, ValidRoutine, ValidKind, ValidDeclaration, ValidClass}
-use Rattle.eif_valid_bodies.specs.ValidInstructions.{ValidCompound}
-use Rattle.eif_valid_bodies.proofs.Parts.{no_more, no_value, some_same, left_empty, right_empty, kept}
+use Rattle.eif_valid_bodies.specs.ValidBodies.{ValidEntities, ValidKind, ValidDeclaration, ValidClass}
+use Rattle.eif_valid_bodies.proofs.Parts.{no_value, some_same, left_empty, right_empty, kept}
 use Rattle.eif_valid_bodies.proofs.ReadsSet.{set_by}
 use Rattle.eif_valid_bodies.proofs.Instructions.{body_valid}
 
 -- ---- lists
 
 -- none in all is none of each
-each_empty : {A B : Type 0} (f : A → List B) (xs : List A) (i : ℕ) (x : A) → flat_map f xs ≡ [] → slice_get xs i ≡ Some x
+each_empty : {A B : Type 0} (f : A → List B) (xs : List A) (i : ℕ) (x : A) → flat_map f xs ≡ []
+    → slice_get xs i ≡ Some x
     → f x ≡ []
 each_empty f [] i x h at = absurd (no_value at)
 each_empty f (y ∷ xs) zero x h at = ap f (sym (some_same at)) ∙ left_empty (f y) (flat_map f xs) h
@@ -111,7 +110,8 @@ module _ (s : Setting) (none : entity_faults s ≡ []) where
       let zero_plus : 0 + i ≡ i = omega arith in
       let here : slice_get (enumerate_from 0 s.entities) i ≡ Some (i, e) =
       numbered 0 s.entities i e at ∙ ap (λ m. Some (m, e)) zero_plus in
-      let none_here : entity_rule s (i, e) ≡ [] = each_empty (entity_rule s) (enumerate_from 0 s.entities) i (i, e) none here in
+      let none_here : entity_rule s (i, e) ≡ [] =
+      each_empty (entity_rule s) (enumerate_from 0 s.entities) i (i, e) none here in
       let first : names_feature s e ≡ [] = left_empty (names_feature s e) _ none_here in
       let second : repeated_entity s (take i s.entities) e ≡ [] = right_empty (names_feature s e) _ none_here in
       (kept (has_feature s.line e.name) _ first, kept _ _ second)
@@ -124,7 +124,8 @@ module _ (s : Setting) (none : entity_faults s ≡ []) where
 
   later_apart : (i j : ℕ) (x : List ℕ) → i < j → Named s.entities i x → Named s.entities j x → ⊥
   later_apart i j x le m n =
-      let none_before : list_any (λ d. bytes_eq d.name n.it.name) (take j s.entities) ≡ false = (rule_kept j n.it n.at).1 in
+      let none_before : list_any (λ d. bytes_eq d.name n.it.name) (take j s.entities) ≡ false =
+      (rule_kept j n.it n.at).1 in
       apart s.entities i j m.it n.it.name le m.at none_before (m.is ∙ sym n.is)
 
   three_ways : (i j : ℕ) → (i < j) ⊎ ((i ≡ j) ⊎ (j < i))
@@ -187,14 +188,33 @@ declaration_valid u d c x n is h =
 
 pub class_valid : (u : List ClassT) (d : ℕ) (c : ClassT) → class_body_faults u d c ≡ [] → ValidClass u d c
 class_valid u d c h n x is =
-    let f : Found (λ x. has_name x.names n) (declarations c) x = found (λ x. has_name x.names n) (declarations c) x is in
+    let f : Found (λ x. has_name x.names n) (declarations c) x =
+    found (λ x. has_name x.names n) (declarations c) x is in
     declaration_valid u d c x n f.passes
     (each_empty (declaration_faults u d c) (declarations c) f.i x
     (left_empty (flat_map (declaration_faults u d c) (declarations c)) _ h) f.at)
 
-pub given_valid : (given : List ClassT) → IsNone (GivenBodiesBroken given) → (i : ℕ) (c : ClassT) → slice_get given i ≡ Some c
-    → ValidClass (universe given) (kernel_count + i) c
+given_valid : (given : List ClassT) → IsNone (GivenBodiesBroken given) → (i : ℕ) (c : ClassT)
+    → slice_get given i ≡ Some c → ValidClass (universe given) (kernel_count + i) c
 given_valid given none i c at =
     class_valid (universe given) (kernel_count + i) c
     (each_empty (numbered_body_faults (universe given)) (enumerate_from kernel_count given) i (kernel_count + i, c)
     (none_at_all (body_faults given) none) (numbered kernel_count given i c at))
+
+-- a class behind the kernel's is a given one
+behind : (given : List ClassT) (d : ℕ) (c : ClassT) → kernel_count ≤ d → slice_get (universe given) d ≡ Some c
+    → (i : ℕ) × (kernel_count + i ≡ d) × (slice_get given i ≡ Some c)
+unfolding kernel
+behind given (suc (suc (suc (suc (suc (suc i)))))) c le at = (i, omega arith, at)
+behind given zero c le at = let no : ⊥ = omega arith in absurd no
+behind given (suc zero) c le at = let no : ⊥ = omega arith in absurd no
+behind given (suc (suc zero)) c le at = let no : ⊥ = omega arith in absurd no
+behind given (suc (suc (suc zero))) c le at = let no : ⊥ = omega arith in absurd no
+behind given (suc (suc (suc (suc zero)))) c le at = let no : ⊥ = omega arith in absurd no
+behind given (suc (suc (suc (suc (suc zero))))) c le at = let no : ⊥ = omega arith in absurd no
+
+pub numbered_valid : (given : List ClassT) → IsNone (GivenBodiesBroken given) → (d : ℕ) (c : ClassT) → kernel_count ≤ d
+    → slice_get (universe given) d ≡ Some c → ValidClass (universe given) d c
+numbered_valid given none d c le at =
+    let b : (i : ℕ) × (kernel_count + i ≡ d) × (slice_get given i ≡ Some c) = behind given d c le at in
+    subst (λ d. ValidClass (universe given) d c) b.1 (given_valid given none b.0 c b.2)

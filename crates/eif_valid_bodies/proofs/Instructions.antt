@@ -1,7 +1,6 @@
 -- Instructions without faults are valid, where the tests that are known are typed.
-use Rattle.std.proofs.Common.{◌≡◌, ℕ, Bool, true, false, List, [], ◌∷◌, ◌++◌, Option, Some, None, refl}
+use Rattle.std.proofs.Common.{◌≡◌, ℕ, Bool, true, false, List, [], ◌++◌, Option, None, refl}
 use Rattle.std.specs.Prelude.{not}
-use Rattle.eif_base.specs.declared.code.Code.TheVariants as code
 use Rattle.eif_base.specs.declared.fault.Fault.{Fault}
 use Rattle.eif_base.specs.declared.place.Place.{Place}
 use Rattle.eif_tree.specs.declared.tree.NameAt.{NameAt}
@@ -10,19 +9,18 @@ use Rattle.eif_tree.specs.Tree.{TypeT, Ex, literal, void_value, current_value, r
 use Rattle.eif_classes.specs.Types.{TyT}
 use Rattle.eif_rules.specs.FaultForms.{fault_where}
 use Rattle.eif_body_rules.specs.CallRules.{Argument, name_rule, precursor_rule, call_rule}
-use Rattle.eif_body_rules.specs.ExpressionTypes.{judge, judge_all, facts, first_argument, type_of, faults_of, told}
+use Rattle.eif_body_rules.specs.ExpressionTypes.{judge, judge_all, first_argument, type_of, faults_of, told}
 use Rattle.eif_body_rules.specs.Facts.{Fact}
 use Rattle.eif_body_rules.specs.InstructionFaults.{expression_faults, no_boolean, condition_faults, loop_faults, dropped, call_judged, judge_each, all_unset_reads, create_instruction_rule, instruction_faults, compound_faults, branch_faults, otherwise_faults}
-use Rattle.eif_body_rules.specs.Judgements.{Judged, ◌▹◌, ◌⊗◌, where_typed}
+use Rattle.eif_body_rules.specs.Judgements.{Judged, ◌▹◌, ◌⊗◌}
 use Rattle.eif_body_rules.specs.KnownFacts.{known_after, known_in_loop, known_where, known_otherwise}
 use Rattle.eif_body_rules.specs.LocalFlow.{unset_reads, unset_reads_of_call, set_after, set_after_all}
 use Rattle.eif_body_rules.specs.OperatorRules.{boolean}
 use Rattle.eif_body_rules.specs.Outcomes.{as_instruction}
-use Rattle.eif_body_rules.specs.Settings.{Setting, fault, fits}
+use Rattle.eif_body_rules.specs.Settings.{Setting, fits}
 use Rattle.eif_body_rules.specs.Targets.{assignment_faults}
 use Rattle.eif_body_rules.specs.TestRules.{test_names}
-use Rattle.eif_valid_bodies.specs.SetReads.{SetReads, SetReadsIn}
-use Rattle.eif_valid_bodies.specs.Valid.{Valid, TestsTyped, TypedExpression, TypedArguments}
+use Rattle.eif_valid_bodies.specs.Valid.{TestsTyped, TypedExpression, TypedArguments}
 use Rattle.eif_valid_bodies.specs.ValidCalls.{ValidName, ValidPrecursor, ValidCall}
 use Rattle.eif_valid_bodies.specs.ValidInstructions.{ValidExpression, ValidCondition, ValidAssign, ValidStatement, ValidCreate, ValidInstruction, ValidCompound, ValidBranches, ValidOtherwise}
 use Rattle.eif_valid_bodies.proofs.Parts.{no_more, left_empty, right_empty, rule_empty, HasValue, has, part_clean, first_clean, second_clean, rule_clean, join_both, rule_has}
@@ -60,7 +58,8 @@ condition_of s k set e t h =
     let whole : expression_faults s k set e ≡ [] = left_empty (expression_faults s k set e) _ h in
     let a : TypedExpression s k [] e = typed_expression s k [] e t (left_empty (faults_of s k e) _ whole) in
     let rule : no_boolean s (place_of e) a.type ≡ [] =
-    rule_empty (type_of s k e) a.type (no_boolean s (place_of e)) a.valid.value (right_empty (expression_faults s k set e) _ h) in
+    rule_empty (type_of s k e) a.type (no_boolean s (place_of e)) a.valid.value
+    (right_empty (expression_faults s k set e) _ h) in
     record {
       valid =
           record {
@@ -84,7 +83,8 @@ assign_valid s k set x e t h =
     let a : ValidExpression s k set e = expression_valid s k set e t (left_empty (expression_faults s k set e) _ h) in
     let to : AssignedTo s k x a.type =
     assigned_to s k x (place_of e) a.type
-    (rule_empty (type_of s k e) a.type (assignment_faults s k x (place_of e)) a.valid.value (right_empty (expression_faults s k set e) _ h)) in
+    (rule_empty (type_of s k e) a.type (assignment_faults s k x (place_of e)) a.valid.value
+    (right_empty (expression_faults s k set e) _ h)) in
     record {
       source = a.type;
       target = to.target;
@@ -108,7 +108,8 @@ name_stated : (s : Setting) (k : List Fact) (p : Place) (x : List ℕ) (args : E
 name_stated s k p x args t h =
     let j : Judged (List Argument) = judge_all s k [] args in
     let a : TypedArguments s k [] args =
-    typed_arguments s k [] args t (part_clean j (name_rule s k p x) (part_clean (j ▹ name_rule s k p x) (as_instruction s p p x) h)) in
+    typed_arguments s k [] args t
+    (part_clean j (name_rule s k p x) (part_clean (j ▹ name_rule s k p x) (as_instruction s p p x) h)) in
     stated_name s k p x args
     (stated_has s j (name_rule s k p x) p p x a.given a.valid (name_has s k p x a.given t) h).valid
 
@@ -117,7 +118,8 @@ precursor_stated : (s : Setting) (k : List Fact) (p : Place) (x : Option NameAt)
 precursor_stated s k p x args t h =
     let j : Judged (List Argument) = judge_all s k [] args in
     let a : TypedArguments s k [] args =
-    typed_arguments s k [] args t (part_clean j (precursor_rule s p x) (part_clean (j ▹ precursor_rule s p x) (as_instruction s p p s.feature) h)) in
+    typed_arguments s k [] args t
+    (part_clean j (precursor_rule s p x) (part_clean (j ▹ precursor_rule s p x) (as_instruction s p p s.feature) h)) in
     stated_precursor s k p x args
     (stated_has s j (precursor_rule s p x) p p s.feature a.given a.valid (precursor_has s p x a.given) h).valid
 
@@ -133,7 +135,8 @@ call_stated s k p e x args t h =
     let b : TypedArguments s k (test_names e) args =
     typed_arguments s k (test_names e) args t (second_clean target rest clean) in
     stated_call s k p e x args
-    (stated_has s (target ⊗ rest) rule p x.place x.name (a.type, b.given) (join_both target rest a.type b.given a.valid b.valid)
+    (stated_has s (target ⊗ rest) rule p x.place x.name (a.type, b.given)
+    (join_both target rest a.type b.given a.valid b.valid)
     (call_rule_has s (place_of e) x a.type b.given) h).valid
 
 statement_valid : (s : Setting) (k : List Fact) (set : List (List ℕ)) (e : Ex) → TestsTyped k
@@ -144,7 +147,7 @@ statement_valid s k set (unqualified p x args) t h = (
 )
 statement_valid s k set (precursor p x args) t h = (
   precursor_stated s k p x args t (left_empty (call_judged s k (precursor p x args)).faults _ h),
-  set_reads s set k [] (precursor p x args) (right_empty (call_judged s k (precursor p x args)).faults _ h),
+  set_reads_in s set k [] args (right_empty (call_judged s k (precursor p x args)).faults _ h),
 )
 statement_valid s k set (qualified p e x args) t h = (
   call_stated s k p e x args t (left_empty (call_judged s k (qualified p e x args)).faults _ h),
@@ -215,13 +218,15 @@ mutual
   instruction_valid s k set (choose bs o) t h =
       let first : branch_faults s k set bs ≡ [] = left_empty (branch_faults s k set bs) _ h in (
         branches_valid s k set bs t first,
-        otherwise_valid s (known_otherwise s k bs) set o (otherwise_typed s k set bs t first) (right_empty (branch_faults s k set bs) _ h),
+        otherwise_valid s (known_otherwise s k bs) set o (otherwise_typed s k set bs t first)
+            (right_empty (branch_faults s k set bs) _ h),
       )
   instruction_valid s k set (loop start claims exit body variant) t h =
       let at : List Fact = known_in_loop s k start body in
       let later : List (List ℕ) = set_after_all set start in
       let each : (compound_faults s k set start ≡ []) × (loop_faults s at later claims exit variant ≡ [])
-      × (compound_faults s (known_where s at false exit) later body ≡ []) = three_empty (compound_faults s k set start) _ _ h in
+      × (compound_faults s (known_where s at false exit) later body ≡ []) =
+      three_empty (compound_faults s k set start) _ _ h in
       let tests : (_ ≡ []) × (condition_faults s at later exit ≡ []) × (_ ≡ []) = three_empty _ _ _ each.1 in
       let c : Condition s at later exit = condition_of s at later exit (loop_typed s k start body t) tests.1 in (
         compound_valid s k set start t each.0,
@@ -235,7 +240,8 @@ mutual
   compound_valid s k set no_inss t h = tt
   compound_valid s k set (and_ins i is) t h = (
     instruction_valid s k set i t (left_empty (instruction_faults s k set i) _ h),
-    compound_valid s (known_after s k i) (set_after set i) is (after_typed s k i t) (right_empty (instruction_faults s k set i) _ h),
+    compound_valid s (known_after s k i) (set_after set i) is (after_typed s k i t)
+        (right_empty (instruction_faults s k set i) _ h),
   )
 
   branches_valid : (s : Setting) (k : List Fact) (set : List (List ℕ)) (bs : Branches) → TestsTyped k

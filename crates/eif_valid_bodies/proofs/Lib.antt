@@ -8,3 +8,5 @@ pub mod ReadsSet
 pub mod Targets
 pub mod Instructions
 pub mod Declarations
+pub mod TestsFree
+pub mod Staying

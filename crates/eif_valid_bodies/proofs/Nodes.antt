@@ -1,38 +1,35 @@
 -- What a valid expression of each other form says.
-use Rattle.std.proofs.Common.{◌≡◌, ◌⊎◌, inl, inr, ℕ, Bool, true, false, List, [], ◌∷◌, ◌++◌, Option, Some, None, refl, sym, ap, ◌∙◌}
+use Rattle.std.proofs.Common.{◌≡◌, ◌⊎◌, inl, inr, ℕ, Bool, true, false, List, [], ◌++◌, Option, Some, None, refl, sym, ap, ◌∙◌}
 use Rattle.std.specs.Prelude.{if◌then◌else◌, not, ◌&&◌, ◌||◌, is_none}
 use Rattle.std.specs.Option.{option_map_or, option_and_then}
 use Rattle.eif_base.specs.declared.code.Code.TheVariants as code
 use Rattle.eif_base.specs.declared.fault.Fault.{Fault}
 use Rattle.eif_base.specs.declared.place.Place.{Place}
-use Rattle.eif_base.specs.Numbering.{is_among}
 use Rattle.eif_tree.specs.declared.tree.Literal.{Literal}
 use Rattle.eif_tree.specs.declared.tree.NameAt.{NameAt}
 use Rattle.eif_tree.specs.declared.tree.Op.{Op}
 use Rattle.eif_tree.specs.declared.tree.Op.TheVariants as op
 use Rattle.eif_tree.specs.Tree.{TypeT, Ex, literal, void_value, current_value, result_value, creation, test, paren, unary, binary, Exs}
-use Rattle.eif_system.specs.WrittenTypes.{type_mark}
 use Rattle.eif_classes.specs.Constraints.{class_in}
 use Rattle.eif_classes.specs.KernelNumbers.{is_basic}
 use Rattle.eif_classes.specs.Resolution.{own_type, actuals_in}
 use Rattle.eif_classes.specs.Signatures.{Signature, signature, with_actuals}
 use Rattle.eif_classes.specs.Types.{TyT, none_type, attached_form}
 use Rattle.eif_rules.specs.FaultForms.{fault_where}
-use Rattle.eif_rules.specs.UniverseRules.{is_detachable}
 use Rattle.eif_body_rules.specs.CallRules.{Argument, visible_result, result_rule}
 use Rattle.eif_body_rules.specs.Conditions.{goes_on, at_right}
 use Rattle.eif_body_rules.specs.CreationRules.{Creation, of_written, created_line, creator_name, is_deferred, is_creator, wrong_created_type, deferred_class, basic_class, no_creator, creation_faults, creator_call, creator_signature, creation_type, creation_rule}
 use Rattle.eif_body_rules.specs.ExpressionTypes.{judge, judge_all, facts, told_by_test}
 use Rattle.eif_body_rules.specs.Facts.{Fact, Usable, usable_test}
-use Rattle.eif_body_rules.specs.Judgements.{Judged, fine, broken, unless, first_of, ◌▹◌, ◌⊗◌}
-use Rattle.eif_body_rules.specs.OperatorRules.{integer, boolean, character, string, literal_type, operator_text, result_where, are_both, sum_rule, order_rule, binary_rule, unary_rule}
+use Rattle.eif_body_rules.specs.Judgements.{Judged, fine, first_of, ◌▹◌}
+use Rattle.eif_body_rules.specs.OperatorRules.{integer, boolean, character, string, literal_type, result_where, are_both, order_rule, binary_rule, unary_rule}
 use Rattle.eif_body_rules.specs.Outcomes.{Outcome}
-use Rattle.eif_body_rules.specs.Settings.{Setting, fault, fits, Entity, entity_of, Meaning, test_local, entity, feature, unknown, or_feature, or_entity, or_test, meaning}
+use Rattle.eif_body_rules.specs.Settings.{Setting, fits, Entity, entity_of, Meaning, or_feature, or_entity, or_test, meaning}
 use Rattle.eif_body_rules.specs.TestRules.{local_names, test_names, denotes, taken_name, repeated_name, local_faults, wrong_test_type, test_faults, test_rule, local_type, bound_local}
 use Rattle.eif_valid_bodies.specs.Valid.{Valid}
 use Rattle.eif_valid_bodies.specs.ValidCalls.{IsCalled}
 use Rattle.eif_valid_bodies.specs.ValidNodes.{AreBoth, Operands, Operand, ValidUnary, ValidBinary, IsFree, IsFreeLocal, IsUnmarked, ValidTest, IsCreated, ValidCreation}
-use Rattle.eif_valid_bodies.proofs.Parts.{no_more, no_value, some_same, kept, none_first, ValidNext, valid_next, ValidTwo, valid_two, fine_is, unless_is, unless_judged}
+use Rattle.eif_valid_bodies.proofs.Parts.{no_more, no_value, kept, none_first, ValidNext, valid_next, ValidTwo, valid_two, fine_is, unless_is, unless_judged}
 use Rattle.eif_valid_bodies.proofs.Calls.{Called, valid_called, long_is}
 
 -- ---- leaves
@@ -158,7 +155,8 @@ module _ (s : Setting) where
   is_free : (k : List Fact) (x : List ℕ) → denotes (meaning s k x) ≡ false → IsFree s k x
   unfolding meaning
   is_free k x h =
-      let a : (usable_test k x ≡ None) × (denotes (or_entity (or_feature (signature s.universe s.line x)) (entity_of s x)) ≡ false) =
+      let a : (usable_test k x ≡ None)
+      × (denotes (or_entity (or_feature (signature s.universe s.line x)) (entity_of s x)) ≡ false) =
       no_test_by (usable_test k x) _ h in
       let b : (entity_of s x ≡ None) × (denotes (or_feature (signature s.universe s.line x)) ≡ false) =
       no_entity_by (entity_of s x) _ a.1 in
@@ -175,7 +173,8 @@ module _ (s : Setting) where
   unmarked None h = tt
   unmarked (Some t) h = kept _ _ h
 
-  none_wrong : (k : List Fact) (n : List (List ℕ)) (w : Option TypeT) (local : Option NameAt) → test_faults s k n w local ≡ []
+  none_wrong : (k : List Fact) (n : List (List ℕ)) (w : Option TypeT) (local : Option NameAt)
+      → test_faults s k n w local ≡ []
       → IsFreeLocal s k n local × IsUnmarked w
   unfolding test_faults
   none_wrong k n w local h =
@@ -183,12 +182,14 @@ module _ (s : Setting) where
       none_first _ _ h in
       (free_local k n local each.0, unmarked w each.1)
 
-  pub valid_test : (k : List Fact) (n : List (List ℕ)) (p : Place) (w : Option TypeT) (local : Option NameAt) (e : Ex) (t : TyT)
+  pub valid_test : (k : List Fact) (n : List (List ℕ)) (p : Place) (w : Option TypeT) (local : Option NameAt) (e : Ex)
+      (t : TyT)
       → Valid (judge s k n (test p w local e)) t → ValidTest s k n p w local e t
   valid_test k n p w local e t v =
       let tested : Judged TyT = judge s k (n ++ local_names local) e in
       let rule : ValidNext tested (test_rule (test_faults s k n w local)) t = valid_next tested _ t v in
-      let same : (test_faults s k n w local ≡ []) × (t ≡ boolean) = unless_is (test_faults s k n w local) boolean t rule.judged in
+      let same : (test_faults s k n w local ≡ []) × (t ≡ boolean) =
+      unless_is (test_faults s k n w local) boolean t rule.judged in
       let none : IsFreeLocal s k n local × IsUnmarked w = none_wrong k n w local same.0 in
       record {
         tested = rule.value;
@@ -232,7 +233,8 @@ module _ (s : Setting) where
   created_by : (c : Creation) → creation_faults s c ≡ [] → CreatedClass c × Creator c
   unfolding creation_faults
   created_by c h =
-      let a : (wrong_created_type s c ≡ []) × (first_of (deferred_class s c) (first_of (basic_class s c) (no_creator s c)) ≡ []) =
+      let a : (wrong_created_type s c ≡ [])
+      × (first_of (deferred_class s c) (first_of (basic_class s c) (no_creator s c)) ≡ []) =
       none_first _ _ h in
       let b : (deferred_class s c ≡ []) × (first_of (basic_class s c) (no_creator s c) ≡ []) = none_first _ _ a.1 in
       let d : (basic_class s c ≡ []) × (no_creator s c ≡ []) = none_first _ _ b.1 in
@@ -250,7 +252,8 @@ module _ (s : Setting) where
   called_by_creation c args (Some g) o t is v r =
       let call : Called s args (with_actuals (actuals_in c.type) g) o =
       valid_called s _ _ args (with_actuals (actuals_in c.type) g) o v in
-      let short : (o.is_long ≡ false) × (t ≡ attached_form c.type) = long_is s c.place o.is_long (attached_form c.type) t r in
+      let short : (o.is_long ≡ false) × (t ≡ attached_form c.type) =
+      long_is s c.place o.is_long (attached_form c.type) t r in
       (record { signed = g; found = is; called = call.fit_if (ap (λ o. o.is_long) (sym call.is) ∙ short.0) }, short.1)
 
   pub record Made (c : Creation) (wrong : List Fault) (args : List Argument) (t : TyT) : Type 0 where
@@ -259,11 +262,13 @@ module _ (s : Setting) where
 
   -- the rule of a creation, with all that is judged of it before its call
   pub made_by : (c : Creation) (wrong : List Fault) (args : List Argument) (t : TyT)
-      → (wrong ≡ [] → creation_faults s c ≡ []) → Valid (creation_rule s c wrong args) t → (wrong ≡ []) × Made c wrong args t
+      → (wrong ≡ [] → creation_faults s c ≡ []) → Valid (creation_rule s c wrong args) t
+      → (wrong ≡ []) × Made c wrong args t
   unfolding creation_rule
   made_by c wrong args t right v =
       let call : Judged Outcome = creator_call s c args (creator_signature s c) in
-      let judged : (wrong ≡ []) × Valid (call ▹ creation_type s c) t = unless_judged wrong (call ▹ creation_type s c) t v in
+      let judged : (wrong ≡ []) × Valid (call ▹ creation_type s c) t =
+      unless_judged wrong (call ▹ creation_type s c) t v in
       let rule : ValidNext call (creation_type s c) t = valid_next call (creation_type s c) t judged.1 in
       let by : CreatedClass c × Creator c = created_by c (right judged.0) in
       let it : CreatorCalled c args × (t ≡ attached_form c.type) =
@@ -281,14 +286,17 @@ module _ (s : Setting) where
                 reference = by.0.reference;
                 named = by.1.named;
                 is_one = by.1.is_one;
-                found = ap (λ n. option_and_then (signature s.universe (created_line s c)) n) (sym by.1.named) ∙ it.0.found;
+                found =
+                    ap (λ n. option_and_then (signature s.universe (created_line s c)) n) (sym by.1.named)
+                    ∙ it.0.found;
                 called = it.0.called;
               };
           is = it.1;
         },
       )
 
-  pub valid_creation : (k : List Fact) (n : List (List ℕ)) (p : Place) (w : TypeT) (x : Option NameAt) (args : Exs) (t : TyT)
+  pub valid_creation : (k : List Fact) (n : List (List ℕ)) (p : Place) (w : TypeT) (x : Option NameAt) (args : Exs)
+      (t : TyT)
       → Valid (judge s k n (creation p w x args)) t → ValidCreation s k n p w x args t
   valid_creation k n p w x args t v =
       let c : Creation = of_written s code.Vgce p w x in

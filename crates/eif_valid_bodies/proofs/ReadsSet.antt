@@ -1,5 +1,5 @@
 -- Where no read is found unset, each is of one that is set.
-use Rattle.std.proofs.Common.{◌≡◌, ℕ, Bool, true, false, List, [], ◌∷◌, ◌++◌, Option, Some, None, refl}
+use Rattle.std.proofs.Common.{◌≡◌, ℕ, Bool, true, false, List, [], ◌++◌, Option, Some, None, refl}
 use Rattle.std.specs.Prelude.{if◌then◌else◌, not, ◌&&◌, ◌||◌}
 use Rattle.std.specs.Option.{option_map_or}
 use Rattle.eif_base.specs.declared.fault.Fault.{Fault}
@@ -47,7 +47,8 @@ module _ (s : Setting) (set : List (List ℕ)) where
   name_set k p x no_exs h = local_set p x (meaning s k x) h
   name_set k p x (and_ex e es) h = tt
 
-  result_set : (p : Place) (o : Option TyT) → option_map_or (unset_read s set p result_name) o [] ≡ [] → ResultIsSet set o
+  result_set : (p : Place) (o : Option TyT) → option_map_or (unset_read s set p result_name) o [] ≡ []
+      → ResultIsSet set o
   result_set p None h = tt
   result_set p (Some t) h = read_set p result_name t h
 
@@ -61,7 +62,8 @@ module _ (s : Setting) (set : List (List ℕ)) where
         (set_reads_in k n args (left_empty _ _ h), name_set k p x args (right_empty (unset_in s k n set args) _ h))
     set_reads k n (precursor p x args) h = set_reads_in k n args h
     set_reads k n (qualified p e x args) h =
-        (set_reads k n e (left_empty _ _ h), set_reads_in k (n ++ test_names e) args (right_empty (unset s k n set e) _ h))
+        let rest : unset_in s k (n ++ test_names e) set args ≡ [] = right_empty (unset s k n set e) _ h in
+        (set_reads k n e (left_empty _ _ h), set_reads_in k (n ++ test_names e) args rest)
     set_reads k n (creation p t x args) h = set_reads_in k n args h
     set_reads k n (test p t local e) h = set_reads k (n ++ local_names local) e h
     set_reads k n (paren p e) h = set_reads k n e h
@@ -76,7 +78,8 @@ module _ (s : Setting) (set : List (List ℕ)) where
         → SetReadsIn s k n set es
     set_reads_in k n no_exs h = tt
     set_reads_in k n (and_ex e es) h =
-        (set_reads k n e (left_empty _ _ h), set_reads_in k (n ++ test_names e) es (right_empty (unset s k n set e) _ h))
+        let rest : unset_in s k (n ++ test_names e) set es ≡ [] = right_empty (unset s k n set e) _ h in
+        (set_reads k n e (left_empty _ _ h), set_reads_in k (n ++ test_names e) es rest)
 
   pub set_reads_each : (k : List Fact) (es : Exs) → all_unset_reads s k set es ≡ [] → SetReadsEach s k set es
   set_reads_each k no_exs h = tt
@@ -84,7 +87,8 @@ module _ (s : Setting) (set : List (List ℕ)) where
       (set_reads k [] e (left_empty _ _ h), set_reads_each k es (right_empty (unset s k [] set e) _ h))
 
 -- the laws, for any names that are set
-pub reads_set : (s : Setting) (k : List Fact) (n set : List (List ℕ)) (e : Ex) → unset s k n set e ≡ [] → SetReads s k n set e
+pub reads_set : (s : Setting) (k : List Fact) (n set : List (List ℕ)) (e : Ex) → unset s k n set e ≡ []
+    → SetReads s k n set e
 reads_set s k n set e h = set_reads s set k n e h
 
 pub reads_set_in : (s : Setting) (k : List Fact) (n set : List (List ℕ)) (es : Exs) → unset_in s k n set es ≡ []

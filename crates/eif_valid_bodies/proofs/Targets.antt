@@ -1,5 +1,5 @@
 -- The target of an instruction without faults.
-use Rattle.std.proofs.Common.{◌≡◌, ℕ, Bool, true, false, List, [], ◌∷◌, ◌++◌, Option, Some, None, refl, sym, ap, ◌∙◌}
+use Rattle.std.proofs.Common.{◌≡◌, ℕ, Bool, true, false, List, [], Option, Some, None, refl, sym, ap, ◌∙◌}
 use Rattle.std.specs.Prelude.{if◌then◌else◌, not}
 use Rattle.std.specs.Option.{option_map_or}
 use Rattle.std.specs.Str.{bytes_eq}
@@ -15,12 +15,12 @@ use Rattle.eif_body_rules.specs.CallRules.{Argument, result_rule}
 use Rattle.eif_body_rules.specs.CreationRules.{Creation, of_written, creation_faults, creation_rule, unfit_type}
 use Rattle.eif_body_rules.specs.Facts.{Fact}
 use Rattle.eif_body_rules.specs.InstructionFaults.{of_target, created_for, create_instruction_rule}
-use Rattle.eif_body_rules.specs.Judgements.{Judged, fine, broken, first_of, ◌▹◌}
+use Rattle.eif_body_rules.specs.Judgements.{first_of}
 use Rattle.eif_body_rules.specs.Settings.{Setting, fault, fits, Meaning, test_local, entity, feature, unknown, meaning}
-use Rattle.eif_body_rules.specs.Targets.{meant_type, target_type, is_attribute_name, is_variable, variable_type, named_target, target_rule, unfit_source, assignment_faults}
+use Rattle.eif_body_rules.specs.Targets.{meant_type, target_type, is_attribute_name, variable_type, named_target, target_rule, unfit_source, assignment_faults}
 use Rattle.eif_valid_bodies.specs.Valid.{Valid}
 use Rattle.eif_valid_bodies.specs.ValidInstructions.{IsVariable, IsTargetBy, IsTarget, IsCreatedFor}
-use Rattle.eif_valid_bodies.proofs.Parts.{no_more, no_value, some_same, left_empty, right_empty, kept, none_first, fine_is, HasValue, if_has, part_clean, rule_clean}
+use Rattle.eif_valid_bodies.proofs.Parts.{no_more, no_value, some_same, left_empty, right_empty, none_first, HasValue, if_has, part_clean, rule_clean}
 use Rattle.eif_valid_bodies.proofs.Nodes.{result_seen, Made, made_by}
 use Rattle.eif_valid_bodies.proofs.TypedRules.{result_has, creation_has}
 
@@ -95,14 +95,16 @@ module _ (s : Setting) where
   source_fits : (x : NameAt) (p : Place) (t u : TyT) (o : Option TyT) → o ≡ Some u
       → option_map_or (unfit_source s x p t) o [] ≡ [] → fits s t u ≡ true
   source_fits x p t u o is h =
-      not_kept (fits s t u) (fault s code.Vbar 2 p x.name) (ap (λ o. option_map_or (unfit_source s x p t) o []) (sym is) ∙ h)
+      not_kept (fits s t u) (fault s code.Vbar 2 p x.name)
+      (ap (λ o. option_map_or (unfit_source s x p t) o []) (sym is) ∙ h)
 
   pub record AssignedTo (k : List Fact) (x : NameAt) (t : TyT) : Type 0 where
     pub target : TyT
     pub is_target : IsTarget s k x.name target
     pub fit : fits s t target ≡ true
 
-  pub assigned_to : (k : List Fact) (x : NameAt) (p : Place) (t : TyT) → assignment_faults s k x p t ≡ [] → AssignedTo k x t
+  pub assigned_to : (k : List Fact) (x : NameAt) (p : Place) (t : TyT) → assignment_faults s k x p t ≡ []
+      → AssignedTo k x t
   unfolding assignment_faults
   assigned_to k x p t h =
       let a : HasValue (target_rule s k x) = target_has k x (left_empty _ _ h) in
@@ -110,7 +112,9 @@ module _ (s : Setting) where
       record {
         target = a.it;
         is_target = is;
-        fit = source_fits x p t a.it (target_type s k x.name) (type_is k x.name a.it is) (right_empty (target_rule s k x).faults _ h);
+        fit =
+            source_fits x p t a.it (target_type s k x.name) (type_is k x.name a.it is)
+            (right_empty (target_rule s k x).faults _ h);
       }
 
   -- ---- creations
@@ -135,16 +139,20 @@ module _ (s : Setting) where
       made_by s c wrong args v.it (λ h. (none_first (creation_faults s c) (unfit_type s c x.name t) h).0) v.valid in
       (made.1.created, written_fits c x.name t (none_first (creation_faults s c) (unfit_type s c x.name t) made.0).1)
 
-  pub record CreatedFor (k : List Fact) (p : Place) (w : Option TypeT) (x : NameAt) (y : Option NameAt) (args : List Argument) : Type 0 where
+  pub record CreatedFor
+      (k : List Fact) (p : Place) (w : Option TypeT) (x : NameAt) (y : Option NameAt) (args : List Argument)
+      : Type 0 where
     pub target : TyT
     pub is_target : IsTarget s k x.name target
     pub created : IsCreatedFor s p w y args target
 
-  pub created_at : (k : List Fact) (p : Place) (w : Option TypeT) (x : NameAt) (y : Option NameAt) (args : List Argument)
+  pub created_at : (k : List Fact) (p : Place) (w : Option TypeT) (x : NameAt) (y : Option NameAt)
+      (args : List Argument)
       → (create_instruction_rule s k p w x y args).faults ≡ [] → CreatedFor k p w x y args
   unfolding create_instruction_rule
   created_at k p w x y args h =
-      let a : HasValue (target_rule s k x) = target_has k x (part_clean (target_rule s k x) (created_for s p w x y args) h) in
+      let a : HasValue (target_rule s k x) =
+      target_has k x (part_clean (target_rule s k x) (created_for s p w x y args) h) in
       record {
         target = a.it;
         is_target = target_is k x a.it a.valid;

@@ -1,5 +1,5 @@
 -- An expression without faults has a type, where the tests that are known are typed.
-use Rattle.std.proofs.Common.{◌≡◌, ℕ, Bool, true, false, List, [], ◌∷◌, ◌++◌, Option, Some, None, refl, sym, subst}
+use Rattle.std.proofs.Common.{◌≡◌, ℕ, Bool, List, [], ◌++◌, Option, refl, sym, subst}
 use Rattle.std.specs.Prelude.{not}
 use Rattle.eif_base.specs.declared.code.Code.TheVariants as code
 use Rattle.eif_base.specs.declared.place.Place.{Place}
@@ -9,21 +9,20 @@ use Rattle.eif_tree.specs.ExpressionPlaces.{place_of}
 use Rattle.eif_tree.specs.Tree.{TypeT, Ex, literal, void_value, current_value, result_value, unqualified, precursor, qualified, creation, test, paren, unary, binary, Exs, no_exs, and_ex}
 use Rattle.eif_classes.specs.Resolution.{own_type}
 use Rattle.eif_classes.specs.Types.{TyT, none_type}
-use Rattle.eif_body_rules.specs.CallRules.{Argument, name_rule, result_rule, call_rule, precursor_rule}
+use Rattle.eif_body_rules.specs.CallRules.{Argument, name_rule, call_rule, precursor_rule}
 use Rattle.eif_body_rules.specs.Conditions.{tested_name, goes_on, left_value, at_right, told_by_operands, told_by_void}
 use Rattle.eif_body_rules.specs.CreationRules.{Creation, of_written, creation_faults, creation_rule}
 use Rattle.eif_body_rules.specs.ExpressionTypes.{judge, judge_all, facts, all_attached, first_argument, told_by_test}
 use Rattle.eif_body_rules.specs.Facts.{Fact}
-use Rattle.eif_body_rules.specs.InstructionFaults.{judge_each, call_judged, dropped}
 use Rattle.eif_body_rules.specs.Judgements.{Judged, ◌▹◌, ◌⊗◌}
 use Rattle.eif_body_rules.specs.OperatorRules.{boolean, literal_type, unary_rule, binary_rule}
-use Rattle.eif_body_rules.specs.Outcomes.{Outcome, as_value, as_instruction}
+use Rattle.eif_body_rules.specs.Outcomes.{as_value}
 use Rattle.eif_body_rules.specs.Settings.{Setting, is_testable}
 use Rattle.eif_body_rules.specs.TestRules.{local_names, test_names, test_faults, test_rule, local_type, bound_local}
-use Rattle.eif_valid_bodies.specs.Valid.{Valid, TestsTyped, TypedExpression, TypedArguments}
+use Rattle.eif_valid_bodies.specs.Valid.{TestsTyped, TypedExpression, TypedArguments}
 use Rattle.eif_valid_bodies.proofs.Parts.{HasValue, has, unless_has, part_clean, first_clean, second_clean, join_both, rule_has}
 use Rattle.eif_valid_bodies.proofs.TypedFacts.{typed_both, attached_typed, typed_if, at_right_typed, unary_typed, operands_typed, bound_typed}
-use Rattle.eif_valid_bodies.proofs.TypedRules.{name_has, precursor_has, call_rule_has, used_has, stated_has, result_has, creation_has, binary_has, unary_has}
+use Rattle.eif_valid_bodies.proofs.TypedRules.{name_has, precursor_has, call_rule_has, used_has, result_has, creation_has, binary_has, unary_has}
 
 module _ (s : Setting) where
   -- of a form that tells nothing
@@ -79,14 +78,16 @@ module _ (s : Setting) where
       let tested : Judged TyT = judge s k (n ++ local_names local) e in
       let bound : List Fact = bound_local p local (local_type s w tested.value) in
       let v : HasValue (judge s k n (test p w local e)) =
-      rule_has tested (test_rule (test_faults s k n w local)) a.type a.valid (unless_has (test_faults s k n w local) boolean) h in
+      rule_has tested (test_rule (test_faults s k n w local)) a.type a.valid
+      (unless_has (test_faults s k n w local) boolean) h in
       record {
         type = v.it;
         valid = v.valid;
         told =
             λ b. typed_if b (told_by_test s e bound)
             (typed_both (all_attached (tested_name (is_testable s) e)) bound
-            (attached_typed (tested_name (is_testable s) e)) (bound_typed s p local w tested.value a.type a.valid.value));
+            (attached_typed (tested_name (is_testable s) e))
+            (bound_typed s p local w tested.value a.type a.valid.value));
       }
 
   unary_expression_typed : (k : List Fact) (n : List (List ℕ)) (p : Place) (o : Op) (e : Ex)
@@ -111,7 +112,8 @@ module _ (s : Setting) where
       let first : Judged TyT = judge s k n left in
       let second : Judged TyT = judge s (at k n o left) (n ++ test_names left) right in
       let v : HasValue (judge s k n (binary p o q left right)) =
-      rule_has (first ⊗ second) (binary_rule s o q) (a.type, b.type) (join_both first second a.type b.type a.valid b.valid)
+      rule_has (first ⊗ second) (binary_rule s o q) (a.type, b.type)
+      (join_both first second a.type b.type a.valid b.valid)
       (binary_has s o q (a.type, b.type)) h in
       record {
         type = v.it;
@@ -211,7 +213,8 @@ module _ (s : Setting) where
         (typed_expression (at k n o left) (n ++ test_names left) right (at_typed k n o left t a)
         (operands_clean k n p o q left right h).1)
 
-    pub typed_arguments : (k : List Fact) (n : List (List ℕ)) (es : Exs) → TestsTyped k → (judge_all s k n es).faults ≡ []
+    pub typed_arguments : (k : List Fact) (n : List (List ℕ)) (es : Exs) → TestsTyped k
+        → (judge_all s k n es).faults ≡ []
         → TypedArguments s k n es
     typed_arguments k n no_exs t h = record { given = []; valid = record { value = refl; faults = refl } }
     typed_arguments k n (and_ex e es) t h =

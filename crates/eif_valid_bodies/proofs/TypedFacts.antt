@@ -14,7 +14,7 @@ use Rattle.eif_body_rules.specs.Conditions.{is_short, tells_both, at_right, told
 use Rattle.eif_body_rules.specs.ExpressionTypes.{type_of, all_attached}
 use Rattle.eif_body_rules.specs.Facts.{Fact, attached, usable, Usable, earlier, usable_test, is_kept, forgotten}
 use Rattle.eif_body_rules.specs.KnownFacts.{assigned, assigned_in, without, learned, has_attached_type, known_after, known_after_all, known_in_loop}
-use Rattle.eif_body_rules.specs.Settings.{Setting, Entity, entity_of, is_local, Meaning, test_local, entity, feature, unknown, or_feature, or_entity, or_test, meaning}
+use Rattle.eif_body_rules.specs.Settings.{Setting, Entity, entity_of, is_local, Meaning, test_local, or_feature, or_entity, or_test, meaning}
 use Rattle.eif_body_rules.specs.TestRules.{local_type, bound_local}
 use Rattle.eif_valid_bodies.specs.Valid.{HasType, TestsTyped}
 use Rattle.eif_valid_bodies.proofs.Parts.{no_value}
@@ -38,7 +38,8 @@ typed_of : (b : Bool) (a c : List Fact) → TestsTyped a → TestsTyped c → Te
 typed_of true a c p q = p
 typed_of false a c p q = q
 
-pub at_right_typed : (o : Op) (k by_left : List Fact) → TestsTyped k → TestsTyped by_left → TestsTyped (at_right o k by_left)
+pub at_right_typed : (o : Op) (k by_left : List Fact) → TestsTyped k → TestsTyped by_left
+    → TestsTyped (at_right o k by_left)
 at_right_typed o k by_left p q = typed_of (is_short o) (k ++ by_left) k (typed_both k by_left p q) p
 
 pub unary_typed : (o : Op) (a : List Fact) → TestsTyped a → TestsTyped (told_by_unary o a)
@@ -55,7 +56,8 @@ local_typed s None None t h = absurd (no_value h)
 local_typed s None (Some u) t h = record { type = _; is = refl }
 local_typed s (Some w) o t h = record { type = _; is = refl }
 
-pub bound_typed : (s : Setting) (p : Place) (local : Option NameAt) (w : Option TypeT) (o : Option TyT) (t : TyT) → o ≡ Some t
+pub bound_typed : (s : Setting) (p : Place) (local : Option NameAt) (w : Option TypeT) (o : Option TyT) (t : TyT)
+    → o ≡ Some t
     → TestsTyped (bound_local p local (local_type s w o))
 unfolding bound_local
 bound_typed s p None w o t h = tt
@@ -109,7 +111,8 @@ meaning_typed s k x p =
 
 -- ---- along instructions
 
-kept_if : (b : Bool) (f : Fact) (k : List Fact) → TestsTyped (f ∷ []) → TestsTyped k → TestsTyped (if b then f ∷ k else k)
+kept_if : (b : Bool) (f : Fact) (k : List Fact) → TestsTyped (f ∷ []) → TestsTyped k
+    → TestsTyped (if b then f ∷ k else k)
 kept_if true f k p q = typed_both (f ∷ []) k p q
 kept_if false f k p q = q
 
@@ -144,6 +147,7 @@ pub after_all_typed : (s : Setting) (k : List Fact) (is : Inss) → TestsTyped k
 after_all_typed s k no_inss p = p
 after_all_typed s k (and_ins i is) p = after_all_typed s (known_after s k i) is (after_typed s k i p)
 
-pub loop_typed : (s : Setting) (k : List Fact) (start body : Inss) → TestsTyped k → TestsTyped (known_in_loop s k start body)
+pub loop_typed : (s : Setting) (k : List Fact) (start body : Inss) → TestsTyped k
+    → TestsTyped (known_in_loop s k start body)
 loop_typed s k start body p =
     without_typed s (assigned_in body) (known_after_all s k start) (after_all_typed s k start p)

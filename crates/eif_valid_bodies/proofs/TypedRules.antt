@@ -1,7 +1,6 @@
 -- Each rule that is not broken gives a value.
 use Rattle.std.proofs.Common.{◌≡◌, ℕ, Bool, true, false, List, [], ◌∷◌, length, Option, Some, None, refl, ◌==◌}
 use Rattle.std.specs.Prelude.{if◌then◌else◌, ◌||◌}
-use Rattle.std.specs.Option.{option_map}
 use Rattle.eif_base.specs.declared.code.Code.TheVariants as code
 use Rattle.eif_base.specs.declared.fault.Fault.{Fault}
 use Rattle.eif_base.specs.declared.place.Place.{Place}
@@ -11,15 +10,15 @@ use Rattle.eif_tree.specs.declared.tree.Op.TheVariants as op
 use Rattle.eif_classes.specs.Clients.{is_available}
 use Rattle.eif_classes.specs.Constraints.{is_attached}
 use Rattle.eif_system.specs.Lineage.{Line}
-use Rattle.eif_classes.specs.Signatures.{Signature, SignedEntry, signature, with_actuals}
+use Rattle.eif_classes.specs.Signatures.{Signature, SignedEntry}
 use Rattle.eif_classes.specs.Types.{TyT, Actuals, attached_form}
 use Rattle.eif_rules.specs.FaultForms.{fault_where}
-use Rattle.eif_body_rules.specs.CallRules.{Argument, wrong_arguments, call_of, use_of, name_rule, visible_result, result_rule, visible_call, found_call, call_through, base_line, base_actuals, call_rule, version_call, precursor_rule}
+use Rattle.eif_body_rules.specs.CallRules.{Argument, wrong_arguments, call_of, use_of, name_rule, visible_result, result_rule, found_call, call_through, base_line, base_actuals, call_rule, version_call, precursor_rule}
 use Rattle.eif_body_rules.specs.CreationRules.{Creation, creator_call, creator_signature, creation_type, creation_rule}
 use Rattle.eif_body_rules.specs.Facts.{Fact}
 use Rattle.eif_body_rules.specs.Judgements.{Judged, fine, broken, unless, ◌▹◌}
-use Rattle.eif_body_rules.specs.OperatorRules.{integer, boolean, character, string, operator_text, result_where, are_both, sum_rule, order_rule, binary_rule, unary_rule}
-use Rattle.eif_body_rules.specs.Outcomes.{Given, nothing, a_value, Outcome, given, outcome, long_type, value_of, as_value, instruction_of, as_instruction}
+use Rattle.eif_body_rules.specs.OperatorRules.{integer, boolean, character, string, operator_text, result_where, are_both, order_rule, binary_rule, unary_rule}
+use Rattle.eif_body_rules.specs.Outcomes.{Given, nothing, a_value, Outcome, given, outcome, value_of, as_value, instruction_of, as_instruction}
 use Rattle.eif_body_rules.specs.Settings.{Setting, fault, fits, Meaning, test_local, entity, feature, unknown, meaning}
 use Rattle.eif_valid_bodies.specs.Valid.{Valid, HasType, TestsTyped}
 use Rattle.eif_valid_bodies.proofs.Parts.{no_more, no_value, HasValue, has, if_has, unless_has, part_clean, rule_clean, join_next, rule_has}
@@ -92,7 +91,8 @@ module _ (s : Setting) where
   visible_has true x args g f h = call_has x.place x.name args g h
   visible_has false x args g f h = absurd (no_more h)
 
-  found_has : (x : NameAt) (args : List Argument) (l : Line) (o : Option Signature) → (found_call s x args l o).faults ≡ []
+  found_has : (x : NameAt) (args : List Argument) (l : Line) (o : Option Signature)
+      → (found_call s x args l o).faults ≡ []
       → HasOutcome (found_call s x args l o)
   found_has x args l None h = absurd (no_more h)
   found_has x args l (Some g) h =
@@ -104,11 +104,13 @@ module _ (s : Setting) where
   target_has true x args actuals l f h = found_has x args l _ h
   target_has false x args actuals l f h = absurd (no_more h)
 
-  pub call_rule_has : (p : Place) (x : NameAt) (t : TyT) (args : List Argument) → (call_rule s p x (t, args)).faults ≡ []
+  pub call_rule_has : (p : Place) (x : NameAt) (t : TyT) (args : List Argument)
+      → (call_rule s p x (t, args)).faults ≡ []
       → HasOutcome (call_rule s p x (t, args))
   unfolding call_rule
   call_rule_has p x t args h =
-      target_has (is_attached s.universe s.number t) x args (base_actuals s t) (base_line s t) (fault s code.Vuta 1 p x.name) h
+      target_has (is_attached s.universe s.number t) x args (base_actuals s t) (base_line s t)
+      (fault s code.Vuta 1 p x.name) h
 
   -- ---- how it is used
 
@@ -132,7 +134,8 @@ module _ (s : Setting) where
       let o : Valid (j ▹ rule) r.it = join_next j rule a r.it v r.valid in
       rule_has (j ▹ rule) (as_value s p q x) r.it o (value_has p q x r.it.is_long r.it.gives r.typed) h
 
-  pub stated_has : {A : Type 0} (j : Judged A) (rule : A → Judged Outcome) (p q : Place) (x : List ℕ) (a : A) → Valid j a
+  pub stated_has : {A : Type 0} (j : Judged A) (rule : A → Judged Outcome) (p q : Place) (x : List ℕ) (a : A)
+      → Valid j a
       → ((rule a).faults ≡ [] → HasOutcome (rule a)) → (j ▹ rule ▹ as_instruction s p q x).faults ≡ []
       → HasValue (j ▹ rule ▹ as_instruction s p q x)
   stated_has {A} j rule p q x a v whole h =
@@ -142,7 +145,8 @@ module _ (s : Setting) where
 
   -- ---- the other rules
 
-  visible_result_has : (p : Place) (o : Option TyT) → (visible_result s p o).faults ≡ [] → HasValue (visible_result s p o)
+  visible_result_has : (p : Place) (o : Option TyT) → (visible_result s p o).faults ≡ []
+      → HasValue (visible_result s p o)
   visible_result_has p None h = absurd (no_more h)
   visible_result_has p (Some t) h = has t
 
@@ -170,7 +174,8 @@ module _ (s : Setting) where
   unless_made [] j whole h = whole h
   unless_made (f ∷ fs) j whole h = absurd (no_more h)
 
-  pub creation_has : (c : Creation) (wrong : List Fault) (args : List Argument) → (creation_rule s c wrong args).faults ≡ []
+  pub creation_has : (c : Creation) (wrong : List Fault) (args : List Argument)
+      → (creation_rule s c wrong args).faults ≡ []
       → HasValue (creation_rule s c wrong args)
   unfolding creation_rule
   creation_has c wrong args h =
@@ -189,7 +194,8 @@ module _ (s : Setting) where
   order_has : (o : Op) (q : Place) (ts : TyT × TyT) → (order_rule s o q ts).faults ≡ [] → HasValue (order_rule s o q ts)
   order_has o q ts h = where_has o q (are_both s integer ts || are_both s character ts) boolean h
 
-  pub binary_has : (o : Op) (q : Place) (ts : TyT × TyT) → (binary_rule s o q ts).faults ≡ [] → HasValue (binary_rule s o q ts)
+  pub binary_has : (o : Op) (q : Place) (ts : TyT × TyT) → (binary_rule s o q ts).faults ≡ []
+      → HasValue (binary_rule s o q ts)
   unfolding binary_rule
   binary_has op.Plus q ts h = sum_has q (are_both s string ts) ts h
   binary_has op.Minus q ts h = where_has op.Minus q (are_both s integer ts) integer h

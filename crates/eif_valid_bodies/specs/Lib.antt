@@ -1,4 +1,6 @@
+pub mod KnownStays
 pub mod SetReads
+pub mod TestNames
 pub mod Valid
 pub mod ValidBodies
 pub mod ValidCalls

@@ -6,7 +6,6 @@ use Rattle.eif_classes.specs.Types.{TyT}
 use Rattle.eif_body_rules.specs.CallRules.{Argument}
 use Rattle.eif_body_rules.specs.ExpressionTypes.{judge, judge_all, facts}
 use Rattle.eif_body_rules.specs.Facts.{Fact, attached, usable}
-use Rattle.eif_body_rules.specs.InstructionFaults.{judge_each}
 use Rattle.eif_body_rules.specs.Judgements.{Judged}
 use Rattle.eif_body_rules.specs.Settings.{Setting}
 

@@ -1,8 +1,6 @@
 -- What holds of declarations without faults, in classes and systems of given classes.
-use Rattle.std.specs.Prelude.{◌≡◌, ℕ, ◌+◌, true, false, List, [], map, Option, Some, slice_get}
+use Rattle.std.specs.Prelude.{◌≡◌, ℕ, ◌≤◌, false, List, [], map, Some, slice_get}
 use Rattle.eif_base.specs.Numbering.{IsNumbering}
-use Rattle.eif_tree.specs.declared.tree.NameAt.{NameAt}
-use Rattle.eif_tree.specs.Members.{declarations, has_name}
 use Rattle.eif_tree.specs.Tree.{Inss, KindT, routine, DeclT, ClassT}
 use Rattle.eif_system.specs.Kernel.{kernel_count}
 use Rattle.eif_system.specs.Universe.{universe}
@@ -42,7 +40,8 @@ ValidClass u d c = (n : List ℕ) (x : DeclT) → declaration_of c n ≡ Some x 
 pub record NoFaultInBodies : Type 0 where
   -- of a class
   pub class : (u : List ClassT) (d : ℕ) (c : ClassT) → class_body_faults u d c ≡ [] → ValidClass u d c
-  -- of given classes
+  -- of given classes, by their numbers; those before are the kernel's
   pub given :
       (given : List ClassT) → IsNone (GivenBodiesBroken given)
-      → (i : ℕ) (c : ClassT) → slice_get given i ≡ Some c → ValidClass (universe given) (kernel_count + i) c
+      → (d : ℕ) (c : ClassT) → kernel_count ≤ d → slice_get (universe given) d ≡ Some c
+      → ValidClass (universe given) d c

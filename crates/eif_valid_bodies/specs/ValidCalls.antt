@@ -1,6 +1,6 @@
 -- What holds of a name, a call and Precursor without faults. The result is what the use needs: the type of the value,
 -- or none where it stands as an instruction.
-use Rattle.std.specs.Prelude.{◌≡◌, ℕ, true, false, List, [], ◌∷◌, ◌++◌, Option, Some, None}
+use Rattle.std.specs.Prelude.{◌≡◌, ℕ, true, false, List, [], ◌∷◌, ◌++◌, Option, Some}
 use Rattle.std.specs.Option.{option_map}
 use Rattle.eif_base.specs.declared.place.Place.{Place}
 use Rattle.eif_tree.specs.declared.tree.NameAt.{NameAt}
@@ -13,16 +13,18 @@ use Rattle.eif_classes.specs.Types.{TyT}
 use Rattle.eif_body_rules.specs.CallRules.{Argument, base_line, base_actuals, inherited}
 use Rattle.eif_body_rules.specs.ExpressionTypes.{judge, judge_all}
 use Rattle.eif_body_rules.specs.Facts.{Fact, is_known_attached}
-use Rattle.eif_body_rules.specs.InstructionFaults.{judge_each, call_judged}
+use Rattle.eif_body_rules.specs.InstructionFaults.{judge_each}
 use Rattle.eif_body_rules.specs.Outcomes.{outcome}
 use Rattle.eif_body_rules.specs.Settings.{Setting, fits, Meaning, test_local, entity, feature, unknown, meaning, seen_type}
 use Rattle.eif_body_rules.specs.TestRules.{test_names}
-use Rattle.eif_valid_bodies.specs.Valid.{Valid, HasType, TestsTyped}
+use Rattle.eif_valid_bodies.specs.Valid.{Valid, HasType}
 
 -- ---- arguments
 
 -- the first, and those behind it, by the judgement that they have
-pub record FirstArgument (e : Ex) (args : List Argument) (First : TyT → Type 0) (Rest : List Argument → Type 0) : Type 0 where
+pub record FirstArgument
+    (e : Ex) (args : List Argument) (First : TyT → Type 0) (Rest : List Argument → Type 0)
+    : Type 0 where
   pub type : TyT
   pub rest : List Argument
   pub first_valid : First type

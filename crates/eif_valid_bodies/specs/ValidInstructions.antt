@@ -68,8 +68,9 @@ pub record ValidAssign (s : Setting) (k : List Fact) (set : List (List ℕ)) (x 
 -- a call without result; what is no call has a value, which is dropped
 abbrev pub ValidStatement : Setting → List Fact → List (List ℕ) → Ex → Type 0
 ValidStatement s k set (unqualified p x args) = ValidName s k [] x args None × SetReadsIn s k [] set args
-ValidStatement s k set (precursor p x args) = ValidPrecursor s k [] x args None × SetReads s k [] set (precursor p x args)
-ValidStatement s k set (qualified p e x args) = ValidCall s k [] e x args None × SetReads s k [] set (qualified p e x args)
+ValidStatement s k set (precursor p x args) = ValidPrecursor s k [] x args None × SetReadsIn s k [] set args
+ValidStatement s k set (qualified p e x args) =
+    ValidCall s k [] e x args None × SetReads s k [] set (qualified p e x args)
 ValidStatement s k set e = ValidExpression s k set e
 
 -- what is made for a target of that type: the target's type in attached form, or the written one, which conforms to it

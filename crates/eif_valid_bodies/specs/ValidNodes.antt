@@ -1,5 +1,5 @@
 -- What holds of the other forms of expressions without faults.
-use Rattle.std.specs.Prelude.{◌≡◌, ◌⊎◌, ℕ, Bool, true, false, List, [], ◌++◌, Option, Some, None}
+use Rattle.std.specs.Prelude.{◌≡◌, ◌⊎◌, ℕ, true, false, List, ◌++◌, Option, Some, None}
 use Rattle.eif_base.specs.declared.code.Code.TheVariants as code
 use Rattle.eif_base.specs.declared.place.Place.{Place}
 use Rattle.eif_base.specs.Numbering.{is_among}
@@ -20,7 +20,7 @@ use Rattle.eif_body_rules.specs.Conditions.{goes_on, at_right}
 use Rattle.eif_body_rules.specs.CreationRules.{Creation, of_written, created_line, creator_name, is_deferred, is_creator}
 use Rattle.eif_body_rules.specs.ExpressionTypes.{judge, judge_all, facts, told_by_test}
 use Rattle.eif_body_rules.specs.Facts.{Fact, usable_test}
-use Rattle.eif_body_rules.specs.OperatorRules.{integer, boolean, character, string, literal_type, are_both}
+use Rattle.eif_body_rules.specs.OperatorRules.{integer, boolean, character, string, literal_type}
 use Rattle.eif_body_rules.specs.Settings.{Setting, fits, entity_of}
 use Rattle.eif_body_rules.specs.TestRules.{local_names, test_names, local_type, bound_local}
 use Rattle.eif_valid_bodies.specs.Valid.{Valid}
@@ -139,7 +139,8 @@ pub record ValidLeaves : Type 0 where
 
 pub record ValidNodes : Type 0 where
   pub creation_of :
-      (s : Setting) (k : List Fact) (n : List (List ℕ)) (p : Place) (w : TypeT) (x : Option NameAt) (args : Exs) (t : TyT)
+      (s : Setting) (k : List Fact) (n : List (List ℕ)) (p : Place) (w : TypeT) (x : Option NameAt) (args : Exs)
+      (t : TyT)
       → Valid (judge s k n (creation p w x args)) t → ValidCreation s k n p w x args t
   pub test_of :
       (s : Setting) (k : List Fact) (n : List (List ℕ)) (p : Place) (w : Option TypeT) (local : Option NameAt) (e : Ex)

@@ -1,7 +1,9 @@
 //! What bodies without faults say of each of their nodes. Each law is a clause of a function that does nothing.
 #![tactic(auto)]
 
+ghost use Rattle.eif_valid_bodies.specs.KnownStays.{KnownStays};
 ghost use Rattle.eif_valid_bodies.specs.SetReads.{ReadsAreSet};
+ghost use Rattle.eif_valid_bodies.specs.TestNames.{OwnTestsAreTold, TestsAreFree};
 ghost use Rattle.eif_valid_bodies.specs.Valid.{NoFaultIsTyped};
 ghost use Rattle.eif_valid_bodies.specs.ValidBodies.{NoFaultInBodies};
 ghost use Rattle.eif_valid_bodies.specs.ValidCalls.{ValidArguments, ValidCalls};
@@ -26,6 +28,13 @@ pub fn no_fault_is_typed()
     ensures { NoFaultIsTyped }
 {}
 
+/// The local of each object test in an expression without faults denotes nothing where the expression
+/// stands, and no earlier test in it has its name; and an expression tells of its own tests alone.
+pub fn tests_are_free()
+    ensures free { TestsAreFree }
+    ensures own { OwnTestsAreTold }
+{}
+
 /// Where no read is found unset, each read of a local or of Result is of one that is set.
 pub fn reads_are_set()
     ensures { ReadsAreSet }
@@ -35,6 +44,12 @@ pub fn reads_are_set()
 pub fn no_fault_is_valid()
     ensures valid { NoFaultIsValid }
     ensures typed { TestsStayTyped }
+{}
+
+/// What is known before a condition without faults stays known behind it, and what is known before an
+/// instruction but for the locals that it assigns; what is known in a loop is so at each turn.
+pub fn known_stays()
+    ensures { KnownStays }
 {}
 
 /// In a class without faults in its bodies each declaration has a valid body, and names for its
