@@ -1,0 +1,5 @@
+pub mod Adaptations
+pub mod FeatureSets
+pub mod FirstPlaces
+pub mod NamedItems
+pub mod Parts
