@@ -1,0 +1,5 @@
+pub mod Searches
+pub mod NameSets
+pub mod Inherited
+pub mod Bound
+pub mod FineClasses
