@@ -1,2 +1,4 @@
 pub mod WellFormed
 pub mod BoundNames
+pub mod Signatures
+pub mod Origins
