@@ -67,7 +67,7 @@ pub record IsFine (u : List ClassT) (d : ℕ) (c : ClassT) (l : Line) : Type 0 w
 
 -- ---- clauses
 
-none_of_first : (xs : List Fault) → first_broken xs ≡ [] → xs ≡ []
+pub none_of_first : (xs : List Fault) → first_broken xs ≡ [] → xs ≡ []
 none_of_first [] h = refl
 none_of_first (x ∷ xs) h = cc
 

@@ -6,3 +6,4 @@ pub mod FineClasses
 pub mod Settings
 pub mod Leading
 pub mod Signing
+pub mod Formed

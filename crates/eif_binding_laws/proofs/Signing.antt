@@ -101,6 +101,7 @@ module _ (u : List ClassT) (c : ClassT) (n : List ℕ) where
     pub among : slice_get (clauses c) place ≡ Some p
     pub clause : s.entry.clause ≡ p
     pub final : s.entry.final ≡ n
+    pub renamed : s.entry.final ≡ final_name p s.entry.feature.name
     pub found : feature (line_of u q) s.entry.feature.name ≡ Some s.entry.feature
     pub theirs : Signature
     pub signature : signature u (line_of u q) s.entry.feature.name ≡ Some theirs
@@ -145,6 +146,7 @@ module _ (u : List ClassT) (c : ClassT) (n : List ℕ) where
                 among = among;
                 clause = refl;
                 final = final;
+                renamed = refl;
                 found = h.0;
                 theirs = s;
                 signature = e;
@@ -229,7 +231,7 @@ module _ (u : List ClassT) (order : List ℕ) (is : IsSetting u order) where
     unfolds : line_of u d ≡ line d c ups
     unfolds = unfolded u order is.hierarchy.ordered d c at
 
-    ready : AreReady u c
+    pub ready : AreReady u c
     ready q member =
         let k = parent_class u order is.hierarchy.ordered d q c at member in (
           parents q member,
