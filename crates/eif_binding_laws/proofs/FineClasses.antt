@@ -84,7 +84,7 @@ module _ (u : List ClassT) (c : ClassT) where
   )
 
 -- no listed name has a fault, whatever stands before it
-none_listed : (P : NameAt → Type 0) (judge : List NameAt → NameAt → List Fault) (ns : List NameAt) →
+pub none_listed : (P : NameAt → Type 0) (judge : List NameAt → NameAt → List Fault) (ns : List NameAt) →
     ((earlier : List NameAt) (n : NameAt) → judge earlier n ≡ [] → P n) → each_listed judge ns ≡ [] → AllOf P ns
 none_listed P judge ns f h =
     all_numbered P 0 ns
@@ -237,7 +237,7 @@ module _ (given : List ClassT) where
   abbrev u : List ClassT
   u = universe given
 
-  any_at : slice_get u 0 ≡ Some any_class
+  pub any_at : slice_get u 0 ≡ Some any_class
   unfolding kernel
   any_at = refl
 

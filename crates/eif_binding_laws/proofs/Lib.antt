@@ -7,3 +7,8 @@ pub mod Settings
 pub mod Leading
 pub mod Signing
 pub mod Formed
+pub mod Comparing
+pub mod Redeclared
+pub mod Keeping
+pub mod Versions
+pub mod Creating

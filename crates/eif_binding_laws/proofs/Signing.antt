@@ -324,12 +324,16 @@ module _ (u : List ClassT) (order : List ℕ) (is : IsSetting u order) where
         let x = some_entry n (entries ups) inherited in
         let f = some_signed (signed_entries u c ups n) x.0 (ap (λ es. slice_get es 0) pairs.same ∙ x.1) in
         let l = leading_some (λ s. s.entry) (signed_entries u c ups n) f.0 f.1 in
-        record {
-          by = l.0;
-          leads = l.1;
+        led_by pairs l.0 l.1
+      where
+        led_by : Pairs (IsSignedEntry u c n) (signed_entries u c ups n) (entries_of n (entries ups)) →
+            (l : SignedEntry) → leading (λ s. s.entry) (signed_entries u c ups n) ≡ Some l → IsLed n
+        led_by pairs l leads = record {
+          by = l;
+          leads = leads;
           first = sym (ap (leading (λ e. e)) pairs.same)
-              ∙ (sym (leading_map (λ s. s.entry) (signed_entries u c ups n)) ∙ ap (option_map (λ s. s.entry)) l.1);
-          signed = leading_has (λ s. s.entry) (IsSignedEntry u c n) (signed_entries u c ups n) l.0 pairs.all l.1;
+              ∙ (sym (leading_map (λ s. s.entry) (signed_entries u c ups n)) ∙ ap (option_map (λ s. s.entry)) leads);
+          signed = leading_has (λ s. s.entry) (IsSignedEntry u c n) (signed_entries u c ups n) l pairs.all leads;
         }
 
     signed_by_name : (n : List ℕ) (o : Option DeclT) → declaration_of c n ≡ o →
