@@ -1,6 +1,6 @@
 -- What the names of ancestors are bound to.
 use Rattle.std.proofs.Common.{◌≡◌, ℕ, zero, suc, Bool, true, false, List, [], ◌∷◌, Option, Some, None, refl, sym, ap, subst, ◌∙◌, ⊎_elim}
-use Rattle.std.proofs.lemmas.Bool.{eqb-true, eqb-false, eq-eqb}
+use Rattle.std.proofs.lemmas.Bool.{eqb-true, eqb-false}
 use Rattle.std.proofs.lemmas.Option.{same_Some}
 use Rattle.std.specs.List.{filter, list_all, cons_option}
 use Rattle.std.specs.Option.{option_map, option_or}
@@ -11,14 +11,14 @@ use Rattle.eif_base.specs.Numbering.{is_among}
 use Rattle.eif_classes.specs.Binding.{own_name, is_selected_in, picked, bind, candidates}
 use Rattle.eif_classes.specs.Descent.{descends, any_descends, above}
 use Rattle.eif_classes.specs.Features.{has_feature}
-use Rattle.eif_classes.specs.Names.{agreed, are_several, final_name}
+use Rattle.eif_classes.specs.Names.{agreed, final_name}
 use Rattle.eif_feature_rules.specs.SelectionRules.{is_undecided}
 use Rattle.eif_lineage_laws.specs.Lineages.{line_over}
 use Rattle.eif_lineage_laws.proofs.Descending.{lines_of, no_line, class_or_none, has_class, descends_by, descends_reaches, parent_descends, above_is_listed}
 use Rattle.eif_lineage_laws.proofs.Unfolding.{by_parents, Step, unfolded}
 use Rattle.eif_system.specs.Graph.{is_member, IsOrder}
 use Rattle.eif_system.specs.Inheritance.{clauses, parent_number, graph_of}
-use Rattle.eif_system.specs.Lineage.{Line, cut, line_by, line_of}
+use Rattle.eif_system.specs.Lineage.{line_by, line_of}
 use Rattle.eif_tree.specs.Tree.{ParentT, ClassT}
 use Rattle.eif_type_laws.proofs.Ways.{some_clause, clause_member}
 use Rattle.eif_binding_laws.proofs.Searches.{bytes_same, same_bytes, among_filter}

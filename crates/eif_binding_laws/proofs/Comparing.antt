@@ -1,17 +1,13 @@
 -- One signature beside another, as rules compare them.
-use Rattle.std.proofs.Common.{◌≡◌, ℕ, suc, Bool, true, false, List, [], ◌∷◌, length, map, Option, Some, None, refl, sym, ap, ap₂, subst, ◌∙◌, arith}
+use Rattle.std.proofs.Common.{◌≡◌, ℕ, true, List, [], ◌∷◌, length, Option, Some, None, refl, ap, ap₂, arith}
 use Rattle.std.proofs.lemmas.Bool.{eqb-true}
 use Rattle.std.specs.List.{list_all, zip}
-use Rattle.std.specs.Prelude.{◌&&◌, ◌==◌}
-use Rattle.eif_classes.specs.Conformance.{conforms}
+use Rattle.std.specs.Prelude.{◌&&◌}
 use Rattle.eif_classes.specs.Signatures.{Signature}
 use Rattle.eif_classes.specs.Types.{TyT, no_actuals, and_actual, actual_at, same_type}
 use Rattle.eif_feature_rules.specs.SignaturePairs.{have_equal_count, have_equal_arguments, are_of_one_form, has_conforming_result, have_equal_results, fits, are_equal}
-use Rattle.eif_system.specs.WrittenTypes.{present}
 use Rattle.eif_tree.specs.Tree.{ClassT}
-use Rattle.eif_type_laws.specs.ClassTypes.{IsHierarchy}
 use Rattle.eif_type_laws.proofs.SameTypes.{and_left, and_right, and_both, same_actuals_are}
-use Rattle.eif_lineage_laws.proofs.EachItem.{AllOf}
 use Rattle.eif_binding_laws.specs.KeptSignatures.{ResultConforms, StandsFor}
 use Rattle.eif_binding_laws.proofs.Settings.{signature_of}
 

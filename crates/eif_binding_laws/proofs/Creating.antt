@@ -3,18 +3,16 @@ use Rattle.std.proofs.Common.{◌≡◌, ℕ, Bool, true, false, List, [], ◌�
 use Rattle.std.proofs.lemmas.Option.{same_Some}
 use Rattle.std.proofs.lemmas.Slice.Eq.{bytes_eq-Decides}
 use Rattle.std.specs.List.{flat_map}
-use Rattle.std.specs.Option.{option_map_or, option_to_list}
+use Rattle.std.specs.Option.{option_map_or}
 use Rattle.std.specs.Prelude.{not, slice_get, if◌then◌else◌, is_some, codes}
 use Rattle.std.specs.Str.{bytes_eq}
 use Rattle.eif_base.specs.declared.code.Code.TheVariants as code
-use Rattle.eif_base.specs.declared.fault.Fault.{Fault}
 use Rattle.eif_base.specs.declared.root.Root.{Root}
-use Rattle.eif_classes.specs.Binding.{bind}
 use Rattle.eif_classes.specs.Clients.{client_names}
 use Rattle.eif_classes.specs.Creators.{Creator, creators_in, default_creator, creators_by, creators}
 use Rattle.eif_classes.specs.Descent.{descends}
 use Rattle.eif_classes.specs.Features.{has_feature}
-use Rattle.eif_classes.specs.Signatures.{Signature, with_actuals, signature}
+use Rattle.eif_classes.specs.Signatures.{Signature, signature}
 use Rattle.eif_classes.specs.Types.{TyT}
 use Rattle.eif_feature_rules.specs.ClauseRules.{each_listed}
 use Rattle.eif_feature_rules.specs.CreatorRules.{deferred_creation, unknown_creator, has_result, creator_with_result, repeated_creator, creator_faults_by}
@@ -24,17 +22,17 @@ use Rattle.eif_lineage_laws.proofs.EachItem.{AllOf, all_at, all_left, all_right,
 use Rattle.eif_lineage_laws.proofs.KernelClasses.{any_first}
 use Rattle.eif_lineage_laws.proofs.NoFaults.{none_left, none_right, none_where}
 use Rattle.eif_lineage_laws.proofs.Unfolding.{by_parents, Step, unfolded}
-use Rattle.eif_lineage_laws.proofs.WholeClasses.{has_order, name_denotes, parents_named}
+use Rattle.eif_lineage_laws.proofs.WholeClasses.{name_denotes, parents_named}
 use Rattle.eif_rules.specs.FaultForms.{fault_at}
 use Rattle.eif_system.specs.Graph.{IsOrder}
 use Rattle.eif_system.specs.Inheritance.{any_clause, clauses, parent_number, graph_of}
-use Rattle.eif_system.specs.Kernel.{kernel, any_name, any_class}
+use Rattle.eif_system.specs.Kernel.{any_name, any_class}
 use Rattle.eif_system.specs.Lineage.{Line, line, top, line_of}
 use Rattle.eif_system.specs.Universe.{universe, class_number}
 use Rattle.eif_system.specs.WrittenTypes.{type_name}
 use Rattle.eif_tree.specs.declared.tree.NameAt.{NameAt}
 use Rattle.eif_tree.specs.Members.{creator_names}
-use Rattle.eif_tree.specs.Tree.{no_clients, ParentT, CreatorsT, ClassT}
+use Rattle.eif_tree.specs.Tree.{ParentT, CreatorsT, ClassT}
 use Rattle.eif_type_laws.proofs.Ancestors.{clause_descends}
 use Rattle.eif_type_laws.proofs.Ways.{clause_member}
 use Rattle.eif_binding_laws.specs.KeptSignatures.{ResultConforms}
@@ -43,7 +41,6 @@ use Rattle.eif_binding_laws.proofs.Bound.{names_bound}
 use Rattle.eif_binding_laws.proofs.FineClasses.{none_listed, any_at}
 use Rattle.eif_binding_laws.proofs.Keeping.{found_feature, kept}
 use Rattle.eif_binding_laws.proofs.Redeclared.{not_false}
-use Rattle.eif_binding_laws.proofs.Searches.{apart}
 use Rattle.eif_binding_laws.proofs.Settings.{signature_of, order_of, setting}
 use Rattle.eif_binding_laws.proofs.Signing.{all_signed}
 
@@ -177,8 +174,7 @@ module _ (given : List ClassT) (root : Root) (is : IsWellFormed given root) wher
       let down = heir d c at in
       let b = names_bound u order ordered (λ d c at. (set.fine d c at).decided) d 0 default_name down default_named in
       let xs = set.defined d 0 down in
-      let w = kept u order set d 0 default_name b.0 xs.0 plain xs.1 default_signature b.1 in
-      (
+      let w = kept u order set d 0 default_name b.0 xs.0 plain xs.1 default_signature b.1 in (
         b.0,
         b.1,
         w.signed ∙ ap Some (ap₂ signature_of w.stands.arguments (none_conforms u d w.theirs.result w.stands.result)),

@@ -1,10 +1,10 @@
 -- What it says of a class that it breaks no rule of features and of signatures.
-use Rattle.std.proofs.Common.{◌≡◌, ℕ, suc, ◌+◌, Bool, true, false, List, [], ◌∷◌, ◌++◌, length, map, take, Option, Some, None, refl, sym, ap, subst, ◌∙◌, arith}
+use Rattle.std.proofs.Common.{◌≡◌, ℕ, ◌+◌, Bool, true, false, List, [], ◌∷◌, ◌++◌, length, map, take, Option, Some, None, refl, sym, ap, subst, ◌∙◌, arith}
 use Rattle.std.proofs.lemmas.Bool.{eqb-true, eq-eqb}
 use Rattle.std.proofs.lemmas.Option.{same_Some}
-use Rattle.std.specs.List.{flat_map, enumerate_from, list_all, list_any, cons_option}
+use Rattle.std.specs.List.{flat_map, enumerate_from, list_all, cons_option}
 use Rattle.std.specs.Option.{option_map}
-use Rattle.std.specs.Prelude.{slice_get, cond, find, not, ◌&&◌, ◌||◌, ◌==◌, if◌then◌else◌, nat_lt, is_none}
+use Rattle.std.specs.Prelude.{slice_get, cond, find, ◌&&◌, ◌==◌, if◌then◌else◌, nat_lt}
 use Rattle.std.specs.Str.{bytes_eq}
 use Rattle.eif_ancestry.proofs.Members.{or_cases, or_left, or_right, is_false, place_of}
 use Rattle.eif_base.specs.declared.code.Code.TheVariants as code
@@ -15,12 +15,12 @@ use Rattle.eif_base.specs.Numbering.{is_among}
 use Rattle.eif_classes.specs.Binding.{bind, candidates}
 use Rattle.eif_classes.specs.Descent.{descends, any_descends, above}
 use Rattle.eif_classes.specs.Entries.{Feature, Origin, declared_as, deferred, clashing}
-use Rattle.eif_classes.specs.Features.{is_attribute, is_field, entries, features, has_feature, names, feature}
+use Rattle.eif_classes.specs.Features.{is_field, entries, features, has_feature, names, feature}
 use Rattle.eif_classes.specs.Names.{final_name, is_undefined}
 use Rattle.eif_feature_rules.specs.ClauseRules.{fault_at_name, each_listed, unknown_undefine, repeated_undefine, attribute_undefine, deferred_undefine, undefine_faults, clause_faults, rename_faults, renamed_names, export_faults, exported_names, repeated_all, exported_alls, redefine_faults, select_faults}
 use Rattle.eif_feature_rules.specs.CreatorRules.{creator_faults, root_procedure_faults, creation_faults}
 use Rattle.eif_feature_rules.specs.DeclarationRules.{declaration_faults}
-use Rattle.eif_feature_rules.specs.FeaturePhases.{own_feature_faults_by, own_feature_faults, is_clean, feature_faults, signature_faults, each_given}
+use Rattle.eif_feature_rules.specs.FeaturePhases.{own_feature_faults, is_clean, feature_faults, signature_faults, each_given}
 use Rattle.eif_feature_rules.specs.FeatureRules.{undeclared_redefine, adaptation_faults, origin_faults, many_names, many_ancestor_names, count_names, name_faults}
 use Rattle.eif_feature_rules.specs.JoinRules.{join_faults}
 use Rattle.eif_feature_rules.specs.ParentFeatures.{attribute_feature, routine_feature, ParentFeature, is_attribute_feature, parent_state, parent_feature, parent_features, final_names, has_entry}
@@ -45,7 +45,7 @@ use Rattle.eif_tree.specs.Members.{has_name}
 use Rattle.eif_tree.specs.Tree.{ParentT, ClassT}
 use Rattle.eif_type_laws.proofs.SameTypes.{and_both}
 use Rattle.eif_binding_laws.specs.WellFormed.{IsWellFormed}
-use Rattle.eif_binding_laws.proofs.Searches.{bytes_same, same_bytes, apart, found_has}
+use Rattle.eif_binding_laws.proofs.Searches.{bytes_same, same_bytes, apart}
 
 -- ---- the facts
 

@@ -1,5 +1,5 @@
 -- The types of signatures are types of the class, and what has a signature is a name.
-use Rattle.std.proofs.Common.{◌≡◌, ℕ, zero, suc, ◌≤◌, Bool, true, false, List, [], ◌∷◌, ◌++◌, map, Option, Some, None, refl, sym, ap, subst, ◌∙◌, ⊎_elim, arith}
+use Rattle.std.proofs.Common.{◌≡◌, ℕ, ◌≤◌, Bool, true, false, List, [], ◌∷◌, map, Option, Some, None, refl, sym, ap, subst, ◌∙◌, ⊎_elim, arith}
 use Rattle.std.proofs.lemmas.Option.{same_Some}
 use Rattle.std.specs.List.{flat_map}
 use Rattle.std.specs.Option.{option_map, option_or}
@@ -9,15 +9,14 @@ use Rattle.eif_ancestry.proofs.Members.{or_cases, or_left, or_right, is_false}
 use Rattle.eif_base.specs.Numbering.{is_among}
 use Rattle.eif_classes.specs.Ancestry.{ancestor}
 use Rattle.eif_classes.specs.Entries.{Declaration, Origin, deferred, declared_as, clashing, Feature, Entry, entries_of, leading}
-use Rattle.eif_classes.specs.Features.{declaration_of, entries, features, has_feature, feature}
+use Rattle.eif_classes.specs.Features.{declaration_of, entries, features, feature}
 use Rattle.eif_classes.specs.Signatures.{Signature, SignedEntry, declared_signature, with_actuals, signature, signed_entries}
 use Rattle.eif_classes.specs.Types.{TyT, Actuals, put_in}
 use Rattle.eif_feature_rules.specs.FeatureRules.{clashing_name, deferred_name, origin_faults}
-use Rattle.eif_lineage_laws.specs.Lineages.{line_over}
 use Rattle.eif_lineage_laws.proofs.Descending.{lines_of, no_line, class_or_none}
 use Rattle.eif_lineage_laws.proofs.EachItem.{AllOf, all_at}
 use Rattle.eif_lineage_laws.proofs.NoFaults.{none_right, none_where}
-use Rattle.eif_lineage_laws.proofs.Unfolding.{parent_class, unfolded}
+use Rattle.eif_lineage_laws.proofs.Unfolding.{unfolded}
 use Rattle.eif_rules.specs.FaultForms.{fault_at}
 use Rattle.eif_rules.specs.UniverseRules.{formal_count}
 use Rattle.eif_base.specs.declared.code.Code.TheVariants as code
@@ -32,10 +31,10 @@ use Rattle.eif_type_laws.proofs.Ancestors.{ancestor_of}
 use Rattle.eif_type_laws.proofs.TypesKept.{put_something, put_of}
 use Rattle.eif_type_laws.proofs.Validity.{put_valid, ancestor_valid}
 use Rattle.eif_binding_laws.specs.Signatures.{IsTypeOf, OfTypes, IsSigned}
-use Rattle.eif_binding_laws.proofs.Inherited.{all_names, made, feature_is, found_made}
-use Rattle.eif_binding_laws.proofs.Searches.{same_bytes, bytes_same, turned, apart, found_has, found_passes, among_append, map_append}
+use Rattle.eif_binding_laws.proofs.Inherited.{all_names, made, feature_is}
+use Rattle.eif_binding_laws.proofs.Searches.{turned, apart, found_has, among_append, map_append}
 use Rattle.eif_binding_laws.proofs.Settings.{TypesAre, IsSetting}
-use Rattle.eif_binding_laws.proofs.Signing.{AreReady, signed_pairs, no_clash, all_signed, ready}
+use Rattle.eif_binding_laws.proofs.Signing.{signed_pairs, no_clash, all_signed, ready}
 
 -- a name has a version where the class isn't deferred
 has_version : (c : ClassT) (n : List ℕ) (o : Origin) → c.is_deferred ≡ false → deferred_name c n o ≡ [] →

@@ -11,7 +11,7 @@ use Rattle.eif_classes.specs.Names.{name_set, final_name}
 use Rattle.eif_lineage_laws.proofs.Descending.{lines_of}
 use Rattle.eif_lineage_laws.proofs.EachItem.{AllOf}
 use Rattle.eif_system.specs.Inheritance.{parent_number}
-use Rattle.eif_system.specs.Lineage.{Line, line, Ups, up, line_by, line_of}
+use Rattle.eif_system.specs.Lineage.{Line, line, Ups, line_by, line_of}
 use Rattle.eif_tree.specs.Members.{declared_names}
 use Rattle.eif_tree.specs.Tree.{ParentT, DeclT, ClassT}
 use Rattle.eif_binding_laws.proofs.Searches.{bytes_same, same_bytes, among_append, map_append}

@@ -1,18 +1,15 @@
 -- Dynamic binding keeps signatures.
-use Rattle.std.proofs.Common.{◌≡◌, ℕ, zero, suc, Bool, true, false, List, [], ◌∷◌, ◌++◌, length, map, Option, Some, None, refl, sym, ap, ap₂, subst, ◌∙◌, ⊎_elim}
-use Rattle.std.proofs.lemmas.Bool.{eqb-true, eqb-false}
+use Rattle.std.proofs.Common.{◌≡◌, ℕ, zero, suc, Bool, true, false, List, [], ◌∷◌, map, Option, Some, None, refl, sym, ap, ap₂, subst, ◌∙◌, ⊎_elim}
+use Rattle.std.proofs.lemmas.Bool.{eqb-true}
 use Rattle.std.proofs.lemmas.Option.{same_Some}
-use Rattle.std.specs.List.{filter, filter_map, cons_option}
+use Rattle.std.specs.List.{filter_map, cons_option}
 use Rattle.std.specs.Option.{option_map}
-use Rattle.std.specs.Prelude.{cond, find, slice_get, ◌||◌, ◌==◌, if◌then◌else◌}
+use Rattle.std.specs.Prelude.{cond, find, slice_get, ◌==◌, if◌then◌else◌}
 use Rattle.std.specs.Str.{bytes_eq}
-use Rattle.eif_base.specs.Numbering.{is_among}
 use Rattle.eif_classes.specs.Ancestry.{ancestor}
-use Rattle.eif_classes.specs.Binding.{picked, bind, candidates}
-use Rattle.eif_classes.specs.Conformance.{conforms}
-use Rattle.eif_classes.specs.Descent.{descends}
-use Rattle.eif_classes.specs.Entries.{Declaration, Origin, deferred, declared_as, clashing, Feature, Entry, entry, entries_of}
-use Rattle.eif_classes.specs.Features.{features, entries, has_feature, is_field, feature, origin}
+use Rattle.eif_classes.specs.Binding.{bind, candidates}
+use Rattle.eif_classes.specs.Entries.{Declaration, declared_as, Feature, Entry, entry, entries_of}
+use Rattle.eif_classes.specs.Features.{features, has_feature, is_field, feature}
 use Rattle.eif_classes.specs.Names.{final_name}
 use Rattle.eif_classes.specs.Resolution.{own_formals, clause_actuals}
 use Rattle.eif_classes.specs.Signatures.{Signature, SignedEntry, with_actuals, signed, signature, signed_entries}
@@ -21,10 +18,8 @@ use Rattle.eif_lineage_laws.specs.Lineages.{line_over}
 use Rattle.eif_lineage_laws.proofs.Descending.{lines_of, no_line, class_or_none}
 use Rattle.eif_lineage_laws.proofs.EachItem.{AllOf, all_left, all_right}
 use Rattle.eif_lineage_laws.proofs.Unfolding.{by_parents, Step, parent_class, unfolded}
-use Rattle.eif_rules.specs.UniverseRules.{formal_count}
-use Rattle.eif_system.specs.Graph.{is_member}
-use Rattle.eif_system.specs.Inheritance.{clauses, parent_number, parent_numbers}
-use Rattle.eif_system.specs.Lineage.{Line, line, line_by, line_of}
+use Rattle.eif_system.specs.Inheritance.{clauses, parent_number}
+use Rattle.eif_system.specs.Lineage.{Line, line_by, line_of}
 use Rattle.eif_system.specs.WrittenTypes.{present}
 use Rattle.eif_tree.specs.Tree.{ParentT, ClassT}
 use Rattle.eif_type_laws.specs.ClassTypes.{AreOf}
@@ -32,13 +27,13 @@ use Rattle.eif_type_laws.proofs.Ancestors.{own_is, ancestor_has_class, ancestor_
 use Rattle.eif_type_laws.proofs.Conforming.{transitive, substituted}
 use Rattle.eif_type_laws.proofs.Ways.{clause_member}
 use Rattle.eif_binding_laws.specs.KeptSignatures.{ResultConforms, StandsFor, Serves, IsBound}
-use Rattle.eif_binding_laws.specs.Signatures.{IsTypeOf, IsDeclaredAbove, signature_above, IsVersion, IsSigned}
+use Rattle.eif_binding_laws.specs.Signatures.{IsTypeOf, IsVersion, IsSigned}
 use Rattle.eif_binding_laws.proofs.Bound.{bind_by, bound_by, candidate_is, picked_among, bound_names, names_bound}
 use Rattle.eif_binding_laws.proofs.Formed.{version, ancestor_types, signature_types, signed_feature}
-use Rattle.eif_binding_laws.proofs.Inherited.{all_names, made, has_name_of, found_made, made_is_found, found_named}
-use Rattle.eif_binding_laws.proofs.Redeclared.{stands_self, stands_equal, Redeclares, redeclares}
+use Rattle.eif_binding_laws.proofs.Inherited.{made, has_name_of, found_made, made_is_found}
+use Rattle.eif_binding_laws.proofs.Redeclared.{stands_self, Redeclares, redeclares}
 use Rattle.eif_binding_laws.proofs.Searches.{bytes_same, same_bytes, apart}
-use Rattle.eif_binding_laws.proofs.Settings.{TypesAre, actuals_compose, own_signature, signature_of, IsSetting}
+use Rattle.eif_binding_laws.proofs.Settings.{TypesAre, actuals_compose, own_signature, IsSetting}
 use Rattle.eif_binding_laws.proofs.Signing.{climbs, all_signed}
 
 -- ---- an entry is among the signed ones

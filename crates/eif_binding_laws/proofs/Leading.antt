@@ -1,10 +1,10 @@
 -- The leading one of several entries, and what is joined of their origins.
-use Rattle.std.proofs.Common.{◌≡◌, Bool, true, false, List, [], ◌∷◌, ◌++◌, map, Option, Some, None, refl, sym, ap, subst, ◌∙◌}
+use Rattle.std.proofs.Common.{◌≡◌, Bool, true, false, List, [], ◌∷◌, map, Option, Some, None, refl, sym, ap, subst, ◌∙◌}
 use Rattle.std.proofs.lemmas.Option.{same_Some}
 use Rattle.std.specs.List.{filter, list_all}
 use Rattle.std.specs.Option.{option_map, option_or}
 use Rattle.std.specs.Prelude.{cond, find, slice_get, if◌then◌else◌}
-use Rattle.eif_classes.specs.Entries.{Declaration, Origin, deferred, clashing, Entry, same_origin, lasts, joined, leading}
+use Rattle.eif_classes.specs.Entries.{Declaration, Origin, clashing, Entry, same_origin, lasts, joined, leading}
 use Rattle.eif_lineage_laws.proofs.EachItem.{AllOf}
 use Rattle.eif_binding_laws.specs.Signatures.{IsVersion}
 use Rattle.eif_binding_laws.proofs.Searches.{found_has}

@@ -1,52 +1,47 @@
 -- Each name of a class beside its entries: what it is, by the rules of redeclaration and of joins.
-use Rattle.std.proofs.Common.{◌≡◌, ℕ, zero, suc, Bool, true, false, List, [], ◌∷◌, ◌++◌, length, map, Option, Some, None, refl, sym, ap, ap₂, subst, ◌∙◌}
+use Rattle.std.proofs.Common.{◌≡◌, ℕ, Bool, true, false, List, [], ◌∷◌, ◌++◌, map, Option, Some, None, refl, sym, ap, ap₂, subst, ◌∙◌}
 use Rattle.std.proofs.lemmas.Bool.{eqb-true, eq-eqb}
 use Rattle.std.proofs.lemmas.Option.{same_Some}
-use Rattle.std.specs.List.{filter, filter_map, flat_map, list_all, list_any, cons_option}
+use Rattle.std.specs.List.{filter, flat_map, list_all}
 use Rattle.std.specs.Option.{option_map, option_map_or, option_or}
 use Rattle.std.specs.Prelude.{cond, find, not, slice_get, ◌&&◌, ◌||◌, ◌==◌, if◌then◌else◌}
 use Rattle.std.specs.Str.{bytes_eq}
-use Rattle.eif_ancestry.proofs.Members.{or_cases, or_left, or_right, is_false}
 use Rattle.eif_base.specs.declared.code.Code.TheVariants as code
-use Rattle.eif_base.specs.declared.fault.Fault.{Fault}
 use Rattle.eif_base.specs.Numbering.{is_among}
-use Rattle.eif_classes.specs.Ancestry.{ancestor}
-use Rattle.eif_classes.specs.Entries.{Declaration, Origin, deferred, declared_as, clashing, Feature, Entry, entry, entries_of, is_effective, lasts, same_origin, joined, leading}
-use Rattle.eif_classes.specs.Features.{declaration_of, declared_origin, declared_feature, inherited_feature, feature_by, features, entries, is_attribute, is_field, feature}
-use Rattle.eif_classes.specs.Names.{final_name, is_undefined}
-use Rattle.eif_classes.specs.Resolution.{clause_actuals}
+use Rattle.eif_classes.specs.Entries.{Declaration, Origin, deferred, declared_as, clashing, Feature, Entry, entries_of, is_effective, lasts, same_origin, joined, leading}
+use Rattle.eif_classes.specs.Features.{declaration_of, declared_origin, declared_feature, feature_by, features, entries, is_attribute, is_field, feature}
+use Rattle.eif_classes.specs.Names.{is_undefined}
 use Rattle.eif_classes.specs.Signatures.{Signature, SignedEntry, declared_signature, with_actuals, signed, signature, signed_entries}
-use Rattle.eif_classes.specs.Types.{TyT, Actuals}
+use Rattle.eif_classes.specs.Types.{TyT}
 use Rattle.eif_feature_rules.specs.JoinRules.{SignedName, has_large_entry, large_signature, fits_others, unfit_version, agree, unequal_join, entry_faults, declaration_here, signed_name_faults, signed_name, signed_names, join_faults}
-use Rattle.eif_feature_rules.specs.RedeclarationRules.{fault_beside, other_count, other_argument, other_form, other_result, keeps_attribute, lost_attribute, redeclaration_faults_by, redeclaration_faults}
-use Rattle.eif_feature_rules.specs.RuleForms.{first_broken, DeclaredName, names_of_declaration, declared_here}
+use Rattle.eif_feature_rules.specs.RedeclarationRules.{fault_beside, other_count, other_argument, other_form, other_result, keeps_attribute, lost_attribute, redeclaration_faults_by}
+use Rattle.eif_feature_rules.specs.RuleForms.{DeclaredName, names_of_declaration}
 use Rattle.eif_feature_rules.specs.SignaturePairs.{have_equal_count, have_equal_arguments, are_of_one_form, has_conforming_result, have_equal_results, fits, are_equal}
 use Rattle.eif_lineage_laws.proofs.Descending.{lines_of}
-use Rattle.eif_lineage_laws.proofs.EachItem.{AllOf, all_at, all_then, all_both, all_map, all_left, all_right}
+use Rattle.eif_lineage_laws.proofs.EachItem.{AllOf, all_at, all_then, all_both, all_map}
 use Rattle.eif_lineage_laws.proofs.NoFaults.{none_left, none_right, none_of_each, none_where}
 use Rattle.eif_lineage_laws.proofs.Unfolding.{unfolded}
 use Rattle.eif_rules.specs.FaultForms.{fault_at}
 use Rattle.eif_system.specs.Graph.{is_member}
-use Rattle.eif_system.specs.Inheritance.{clauses, parent_number, parent_numbers}
-use Rattle.eif_system.specs.Lineage.{Line, line, Ups, line_by, line_of}
+use Rattle.eif_system.specs.Inheritance.{clauses, parent_numbers}
+use Rattle.eif_system.specs.Lineage.{line, Ups, line_of}
 use Rattle.eif_system.specs.WrittenTypes.{present}
 use Rattle.eif_tree.specs.declared.tree.NameAt.{NameAt}
 use Rattle.eif_tree.specs.Members.{has_name, declarations}
-use Rattle.eif_tree.specs.Tree.{KindT, attribute, constant, deferred_body, routine, ParentT, DeclT, ClassT}
-use Rattle.eif_type_laws.specs.ClassTypes.{IsHierarchy}
+use Rattle.eif_tree.specs.Tree.{KindT, attribute, constant, deferred_body, routine, DeclT, ClassT}
 use Rattle.eif_type_laws.proofs.Conforming.{reflexive_at}
 use Rattle.eif_type_laws.proofs.SameTypes.{and_left, and_right, and_both}
 use Rattle.eif_tree.specs.declared.tree.Mark.TheVariants.{Plain}
 use Rattle.eif_binding_laws.specs.KeptSignatures.{ResultConforms, StandsFor}
 use Rattle.eif_binding_laws.specs.Signatures.{IsTypeOf, IsDeclaredAbove, signature_above, IsVersion, IsSigned}
-use Rattle.eif_binding_laws.proofs.Comparing.{equal_arguments, results_equal, stands_by, fit_stands, equal_is}
+use Rattle.eif_binding_laws.proofs.Comparing.{results_equal, stands_by, fit_stands, equal_is}
 use Rattle.eif_binding_laws.proofs.FineClasses.{UndefinesNoField, none_of_first}
 use Rattle.eif_binding_laws.proofs.Formed.{signed_types}
 use Rattle.eif_binding_laws.proofs.Inherited.{all_names, made, found_made, found_named}
-use Rattle.eif_binding_laws.proofs.Leading.{leading_has, lasting, none_lasting, first_lasting}
+use Rattle.eif_binding_laws.proofs.Leading.{leading_has, lasting, first_lasting}
 use Rattle.eif_binding_laws.proofs.Searches.{bytes_same, same_bytes, apart, found_has, found_passes}
-use Rattle.eif_binding_laws.proofs.Settings.{TypesAre, signature_of, IsSetting}
-use Rattle.eif_binding_laws.proofs.Signing.{Pairs, AreSigned, IsBy, IsSignedEntry, signed_pairs, all_signed, ready, seen, IsLed, led}
+use Rattle.eif_binding_laws.proofs.Settings.{TypesAre, IsSetting}
+use Rattle.eif_binding_laws.proofs.Signing.{Pairs, AreSigned, IsSignedEntry, signed_pairs, all_signed, ready, seen, led}
 
 pub not_false : (b : Bool) → not b ≡ false → b ≡ true
 not_false true h = refl

@@ -1,5 +1,5 @@
 -- What the laws of binding stand on: a hierarchy of classes that break no rule.
-use Rattle.std.proofs.Common.{◌≡◌, ℕ, zero, suc, List, [], ◌∷◌, ◌++◌, length, map, Option, Some, None, refl, sym, ap, ap₂, subst, ◌∙◌}
+use Rattle.std.proofs.Common.{◌≡◌, ℕ, List, [], ◌∷◌, ◌++◌, length, map, Option, Some, None, refl, sym, ap, ap₂, subst}
 use Rattle.std.specs.List.{flat_map}
 use Rattle.std.specs.Option.{option_map}
 use Rattle.std.specs.Prelude.{slice_get}
@@ -17,7 +17,7 @@ use Rattle.eif_system.specs.WrittenTypes.{Written, written, written_in, written_
 use Rattle.eif_tree.specs.declared.tree.NameAt.{NameAt}
 use Rattle.eif_tree.specs.Members.{has_name, declarations}
 use Rattle.eif_tree.specs.Tree.{TypeT, type_at, GroupT, DeclT, ClassT}
-use Rattle.eif_type_laws.specs.ClassTypes.{IsSomething, IsOf, IsValid, EachClause, IsValidClause, IsHierarchy, Defined}
+use Rattle.eif_type_laws.specs.ClassTypes.{IsSomething, IsOf, EachClause, IsValidClause, IsHierarchy, Defined}
 use Rattle.eif_type_laws.proofs.Ancestors.{count_is}
 use Rattle.eif_type_laws.proofs.Substitution.{put_put, formals_put_all}
 use Rattle.eif_type_laws.proofs.ValidUniverses as valid

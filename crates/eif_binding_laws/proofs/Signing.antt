@@ -1,6 +1,6 @@
 -- The signature of each name is that of a declaration above.
-use Rattle.std.proofs.Common.{◌≡◌, ℕ, zero, suc, Bool, true, false, List, [], ◌∷◌, ◌++◌, length, map, Option, Some, None, refl, sym, ap, ap₂, subst, ◌∙◌, ⊎_elim}
-use Rattle.std.proofs.lemmas.Bool.{eqb-true, eqb-false, eq-eqb}
+use Rattle.std.proofs.Common.{◌≡◌, ℕ, suc, Bool, true, false, List, [], ◌∷◌, ◌++◌, map, Option, Some, None, refl, sym, ap, ap₂, subst, ◌∙◌, ⊎_elim}
+use Rattle.std.proofs.lemmas.Bool.{eqb-true}
 use Rattle.std.proofs.lemmas.Option.{same_Some}
 use Rattle.std.specs.List.{filter, filter_map, flat_map, cons_option}
 use Rattle.std.specs.Option.{option_map, option_or, option_and_then}
@@ -10,33 +10,31 @@ use Rattle.eif_ancestry.proofs.Members.{or_cases, or_left, or_right, is_false}
 use Rattle.eif_base.specs.Numbering.{is_among}
 use Rattle.eif_classes.specs.Ancestry.{ancestor}
 use Rattle.eif_classes.specs.Descent.{descends}
-use Rattle.eif_classes.specs.Entries.{Declaration, Origin, deferred, declared_as, clashing, Feature, Entry, entry, entries_of, leading, joined}
-use Rattle.eif_classes.specs.Features.{declaration_of, declared_origin, declared_feature, inherited_feature, feature_by, features, entries, feature}
+use Rattle.eif_classes.specs.Entries.{Declaration, Origin, deferred, declared_as, clashing, Feature, Entry, entry, entries_of, leading}
+use Rattle.eif_classes.specs.Features.{declaration_of, declared_origin, feature_by, features, entries, feature}
 use Rattle.eif_classes.specs.Names.{final_name}
 use Rattle.eif_classes.specs.Resolution.{own_formals, clause_actuals}
 use Rattle.eif_classes.specs.Signatures.{Signature, SignedEntry, declared_signature, with_actuals, signed, signature, signed_entries}
 use Rattle.eif_classes.specs.Types.{Actuals, put_in_all}
 use Rattle.eif_feature_rules.specs.DeclarationRules.{is_deferred_kind}
 use Rattle.eif_feature_rules.specs.FeatureRules.{clashing_name, deferred_name, origin_faults}
-use Rattle.eif_lineage_laws.specs.Lineages.{line_over}
-use Rattle.eif_lineage_laws.proofs.Descending.{lines_of, no_line, class_or_none, has_class, parent_descends, descends_reaches, no_way_back}
-use Rattle.eif_lineage_laws.proofs.EachItem.{AllOf, all_then, all_append}
+use Rattle.eif_lineage_laws.proofs.Descending.{lines_of, no_line, class_or_none, parent_descends, descends_reaches, no_way_back}
+use Rattle.eif_lineage_laws.proofs.EachItem.{AllOf, all_append}
 use Rattle.eif_lineage_laws.proofs.NoFaults.{none_left}
-use Rattle.eif_lineage_laws.proofs.Unfolding.{first_number, later_number, by_parents, Step, parent_class, unfolded}
+use Rattle.eif_lineage_laws.proofs.Unfolding.{by_parents, Step, parent_class, unfolded}
 use Rattle.eif_system.specs.Graph.{is_member, Reaches}
 use Rattle.eif_system.specs.Inheritance.{clauses, parent_number, parent_numbers, graph_of}
-use Rattle.eif_system.specs.Lineage.{Line, line, Ups, up, line_by, line_of}
+use Rattle.eif_system.specs.Lineage.{Line, line, Ups, line_by, line_of}
 use Rattle.eif_tree.specs.declared.tree.NameAt.{NameAt}
 use Rattle.eif_tree.specs.Members.{has_name, declarations, declared_names}
 use Rattle.eif_tree.specs.Tree.{KindT, attribute, constant, deferred_body, routine, ParentT, DeclT, ClassT}
 use Rattle.eif_type_laws.specs.ClassTypes.{IsHierarchy, Defined}
 use Rattle.eif_type_laws.proofs.Ancestors.{own_ancestor, via, ancestor_descends, clause_descends, count_is}
 use Rattle.eif_type_laws.proofs.Ways.{clause_member}
-use Rattle.eif_binding_laws.specs.Signatures.{IsDeclaredAbove, signature_above, IsVersion, IsSigned}
-use Rattle.eif_binding_laws.proofs.FineClasses.{IsFine}
-use Rattle.eif_binding_laws.proofs.Inherited.{all_names, made, found_made, each_found, found_named}
-use Rattle.eif_binding_laws.proofs.Leading.{leading_map, leading_has, leading_some, lasting, joined_version}
-use Rattle.eif_binding_laws.proofs.Searches.{bytes_same, same_bytes, turned, apart, found_has, among_append, map_append}
+use Rattle.eif_binding_laws.specs.Signatures.{IsVersion, IsSigned}
+use Rattle.eif_binding_laws.proofs.Inherited.{all_names, found_made, each_found}
+use Rattle.eif_binding_laws.proofs.Leading.{leading_map, leading_has, leading_some, joined_version}
+use Rattle.eif_binding_laws.proofs.Searches.{same_bytes, turned, apart, found_has, among_append, map_append}
 use Rattle.eif_binding_laws.proofs.Settings.{actuals_compose, own_signature, IsSetting}
 
 -- ---- what a class gives an ancestor by one of its clauses
@@ -125,7 +123,6 @@ module _ (u : List ClassT) (c : ClassT) (n : List ℕ) where
     by_clause [] h = record { all = tt; same = refl }
     by_clause (f ∷ fs) h = go (bytes_eq (final_name p f.name) n) refl (by_clause fs h.1)
       where
-
         signed_first : (o : Option Signature) → signature u (line_of u q) f.name ≡ o → (t : Signature) → o ≡ Some t →
             IsSigned u q f t → final_name p f.name ≡ n →
             Pairs IsSignedEntry (signed_by p (line_of u q) (entries_of n (map (entry p) fs)))

@@ -1,5 +1,5 @@
 -- The version that `Precursor` stands for.
-use Rattle.std.proofs.Common.{◌≡◌, ℕ, Bool, true, false, List, [], ◌∷◌, map, Option, Some, None, refl, sym, ap, subst, ◌∙◌, ⊎_elim}
+use Rattle.std.proofs.Common.{◌≡◌, ℕ, Bool, true, false, List, [], ◌∷◌, Option, Some, None, refl, sym, ap, subst, ◌∙◌, ⊎_elim}
 use Rattle.std.proofs.lemmas.Option.{same_Some}
 use Rattle.std.specs.List.{filter}
 use Rattle.std.specs.Option.{option_map_or}
@@ -14,12 +14,12 @@ use Rattle.eif_lineage_laws.proofs.EachItem.{AllOf}
 use Rattle.eif_lineage_laws.proofs.Unfolding.{unfolded}
 use Rattle.eif_system.specs.Graph.{is_member}
 use Rattle.eif_system.specs.Inheritance.{clauses, parent_numbers}
-use Rattle.eif_system.specs.Lineage.{cut, line_of}
+use Rattle.eif_system.specs.Lineage.{line_of}
 use Rattle.eif_system.specs.WrittenTypes.{type_name}
 use Rattle.eif_tree.specs.Tree.{ClassT}
 use Rattle.eif_type_laws.proofs.SameTypes.{and_left}
-use Rattle.eif_binding_laws.specs.KeptSignatures.{StandsFor, Serves}
-use Rattle.eif_binding_laws.specs.Signatures.{IsVersion, IsSigned, signature_above}
+use Rattle.eif_binding_laws.specs.KeptSignatures.{Serves}
+use Rattle.eif_binding_laws.specs.Signatures.{IsVersion}
 use Rattle.eif_binding_laws.proofs.Formed.{signed_types}
 use Rattle.eif_binding_laws.proofs.Keeping.{has_version}
 use Rattle.eif_binding_laws.proofs.Redeclared.{stands_self}
@@ -68,8 +68,7 @@ module _ (u : List ClassT) (order : List ℕ) (is : IsSetting u order) where
       (and_left (lasts e && is_redefined e.clause e.final) named w.1) in
       let effective = and_left (is_effective e.feature.origin) (not (is_undefined e.clause e.final)) last in
       let g = seen u order is d c at parents n s w.0 in
-      let y = effective_version e.feature.origin g.declaration g.version effective in
-      (
+      let y = effective_version e.feature.origin g.declaration g.version effective in (
         y.0,
         y.1,
         has_version u order is d s.signature s.entry.feature s.signature g

@@ -1,8 +1,7 @@
 -- Types of a class, and signatures of such types.
-use Rattle.std.specs.Prelude.{◌≡◌, ℕ, false, List, [], ◌∷◌, Option, Some, None, slice_get}
+use Rattle.std.specs.Prelude.{◌≡◌, ℕ, false, List, Some, slice_get}
 use Rattle.std.specs.Option.{ForSome}
 use Rattle.eif_classes.specs.Ancestry.{ancestor}
-use Rattle.eif_classes.specs.Conformance.{conforms}
 use Rattle.eif_classes.specs.Entries.{Declaration, Origin, deferred, declared_as, clashing, Feature}
 use Rattle.eif_classes.specs.Features.{declaration_of}
 use Rattle.eif_classes.specs.Signatures.{Signature, declared_signature, with_actuals}
