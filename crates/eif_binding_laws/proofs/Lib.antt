@@ -1,0 +1,14 @@
+pub mod Searches
+pub mod NameSets
+pub mod Inherited
+pub mod Bound
+pub mod FineClasses
+pub mod Settings
+pub mod Leading
+pub mod Signing
+pub mod Formed
+pub mod Comparing
+pub mod Redeclared
+pub mod Keeping
+pub mod Versions
+pub mod Creating

@@ -1,0 +1,7 @@
+pub mod WellFormed
+pub mod BoundNames
+pub mod Signatures
+pub mod Origins
+pub mod KeptSignatures
+pub mod Precursors
+pub mod Creation
