@@ -1,0 +1,4 @@
+pub mod ClauseTrees
+pub mod Compared
+pub mod Digest
+pub mod Numbers
