@@ -1,12 +1,17 @@
-use crate::feature_rules::CLAUSES;
-use crate::rows::Row;
+use crate::body_rules::BODY_RULES;
+use crate::creation_flow::SPARSE_CREATION_FLOW;
+use crate::feature_rules::{FEATURE_RULES, SPARSE_FEATURE_RULES};
+use crate::local_flow::LOCAL_FLOW;
+use crate::rows::{Row, SparseRow};
+use crate::signature_rules::{SIGNATURE_RULES, SPARSE_SIGNATURE_RULES};
+use crate::universe_rules::UNIVERSE_RULES;
 use crate::{Places, class_digest};
 use eif_lex::lex;
 use eif_parse::{ParseError, parse_class};
 use eif_tree::ClassTree;
 use std::alloc::Global;
 
-const ALL: Places<'static> = Places {
+const EVERYWHERE: Places<'static> = Places {
     all: true,
     offsets: &[],
 };
@@ -23,24 +28,64 @@ fn parsed(alloc: Global, file: u32, text: &[u8]) -> Result<ClassTree, ParseError
 }
 
 /// Whether the text is parsed to a tree with that digest.
-fn has_digest(alloc: Global, row: Row) -> bool {
-    match parsed(alloc, row.1, row.2) {
-        Ok(class) => class_digest(ALL, &class) == row.0,
+fn is_parsed_to(alloc: Global, places: Places, digest: u64, file: u32, text: &[u8]) -> bool {
+    match parsed(alloc, file, text) {
+        Ok(class) => class_digest(places, &class) == digest,
         Err(_) => false,
     }
 }
 
 /// The first class text that is parsed to another tree.
-fn other_tree(alloc: Global, rows: &[Row]) -> Option<&'static [u8]> {
+fn other(alloc: Global, rows: &[Row]) -> Option<&'static [u8]> {
     for row in rows {
-        if !has_digest(alloc, *row) {
+        if !is_parsed_to(alloc, EVERYWHERE, row.0, row.1, row.2) {
             return Some(row.2);
         }
     }
     None
 }
 
+fn other_sparse(alloc: Global, rows: &[SparseRow]) -> Option<&'static [u8]> {
+    for row in rows {
+        let places = Places {
+            all: false,
+            offsets: row.2,
+        };
+        if !is_parsed_to(alloc, places, row.0, row.1, row.3) {
+            return Some(row.3);
+        }
+    }
+    None
+}
+
 #[test]
-fn classes_of_feature_rules(rt: HostRuntime) {
-    assert_eq!(rt; other_tree(rt.alloc(), &CLAUSES), None);
+fn trees_of_universe_rules(rt: HostRuntime) {
+    assert_eq!(rt; other(rt.alloc(), &UNIVERSE_RULES), None);
+}
+
+#[test]
+fn trees_of_feature_rules(rt: HostRuntime) {
+    assert_eq!(rt; other(rt.alloc(), &FEATURE_RULES), None);
+    assert_eq!(rt; other_sparse(rt.alloc(), &SPARSE_FEATURE_RULES), None);
+}
+
+#[test]
+fn trees_of_signature_rules(rt: HostRuntime) {
+    assert_eq!(rt; other(rt.alloc(), &SIGNATURE_RULES), None);
+    assert_eq!(rt; other_sparse(rt.alloc(), &SPARSE_SIGNATURE_RULES), None);
+}
+
+#[test]
+fn trees_of_body_rules(rt: HostRuntime) {
+    assert_eq!(rt; other(rt.alloc(), &BODY_RULES), None);
+}
+
+#[test]
+fn trees_of_local_flow(rt: HostRuntime) {
+    assert_eq!(rt; other(rt.alloc(), &LOCAL_FLOW), None);
+}
+
+#[test]
+fn trees_of_creation_flow(rt: HostRuntime) {
+    assert_eq!(rt; other_sparse(rt.alloc(), &SPARSE_CREATION_FLOW), None);
 }
