@@ -63,67 +63,66 @@ app tenth_line =
           ∷ [];
     }
 
--- the tenth line of APP
+-- ---- APP by its tenth line
+
+-- x.put (Void)
+abbrev pub may_be_void_app : ClassT
+may_be_void_app = app (call (dot (value (on 10 7) "x") (on 10 9) "put" (void_value (on 10 14) ∷ [])) ∷ [])
+
+-- if x /= Void then x.put (Void) end
+abbrev pub tested_app : ClassT
+tested_app = app
+    (if_true
+    (branch (operation (value (on 10 10) "x") (on 10 12) op.NotEqual (void_value (on 10 15)))
+    (call (dot (value (on 10 25) "x") (on 10 27) "put" (void_value (on 10 32) ∷ [])) ∷ []) ∷ [])
+    None ∷ [])
+
+-- if x /= Void and x.ok then end
+abbrev pub strict_app : ClassT
+strict_app = app
+    (if_true
+    (branch
+    (operation (operation (value (on 10 10) "x") (on 10 12) op.NotEqual (void_value (on 10 15)))
+    (on 10 20) op.And (dot (value (on 10 24) "x") (on 10 26) "ok" [])) [] ∷ []) None ∷ [])
+
+-- if x /= Void and then x.ok then end
+abbrev pub short_app : ClassT
+short_app = app
+    (if_true
+    (branch
+    (operation (operation (value (on 10 10) "x") (on 10 12) op.NotEqual (void_value (on 10 15)))
+    (on 10 20) op.AndThen (dot (value (on 10 29) "x") (on 10 31) "ok" [])) [] ∷ []) None ∷ [])
+
+-- if {y: A} x then y.put (Void) end
+abbrev pub test_local_app : ClassT
+test_local_app = app
+    (if_true
+    (branch
+    (test (on 10 10) (Some (plain (on 10 14) "a")) (Some (name (on 10 11) "y"))
+    (value (on 10 17) "x"))
+    (call (dot (value (on 10 24) "y") (on 10 26) "put" (void_value (on 10 31) ∷ [])) ∷ []) ∷ [])
+    None ∷ [])
+
+-- if attached {A} x as y then y.put (Void) end
+abbrev pub other_spelling_app : ClassT
+other_spelling_app = app
+    (if_true
+    (branch
+    (test (on 10 10) (Some (plain (on 10 20) "a")) (Some (name (on 10 28) "y"))
+    (value (on 10 23) "x"))
+    (call (dot (value (on 10 35) "y") (on 10 37) "put" (void_value (on 10 42) ∷ [])) ∷ []) ∷ [])
+    None ∷ [])
+
 pub record ArgumentTestExamples : Type 0 where
-  -- x.put (Void)
-  pub may_be_void :
-      body_faults
-      (app (call (dot (value (on 10 7) "x") (on 10 9) "put" (void_value (on 10 14) ∷ [])) ∷ []) ∷ class_a ∷ [])
+  pub may_be_void : body_faults (may_be_void_app ∷ class_a ∷ [])
       ≡ breach "app" "run" code.Vuta 1 (on 10 7) "put" ∷ []
-  -- if x /= Void then x.put (Void) end
-  pub tested :
-      body_faults
-      (app
-      (if_true
-      (branch (operation (value (on 10 10) "x") (on 10 12) op.NotEqual (void_value (on 10 15)))
-      (call (dot (value (on 10 25) "x") (on 10 27) "put" (void_value (on 10 32) ∷ [])) ∷ []) ∷ [])
-      None ∷ [])
-      ∷ class_a ∷ [])
-      ≡ []
-  -- if x /= Void and x.ok then end
-  pub strict :
-      body_faults
-      (app
-      (if_true
-      (branch
-      (operation (operation (value (on 10 10) "x") (on 10 12) op.NotEqual (void_value (on 10 15)))
-      (on 10 20) op.And (dot (value (on 10 24) "x") (on 10 26) "ok" [])) [] ∷ []) None ∷ [])
-      ∷ class_a ∷ [])
-      ≡ breach "app" "run" code.Vuta 1 (on 10 24) "ok" ∷ []
-  -- if x /= Void and then x.ok then end
-  pub short :
-      body_faults
-      (app
-      (if_true
-      (branch
-      (operation (operation (value (on 10 10) "x") (on 10 12) op.NotEqual (void_value (on 10 15)))
-      (on 10 20) op.AndThen (dot (value (on 10 29) "x") (on 10 31) "ok" [])) [] ∷ []) None ∷ [])
-      ∷ class_a ∷ [])
-      ≡ []
-  -- if {y: A} x then y.put (Void) end
-  pub test_local :
-      body_faults
-      (app
-      (if_true
-      (branch
-      (test (on 10 10) (Some (plain (on 10 14) "a")) (Some (name (on 10 11) "y"))
-      (value (on 10 17) "x"))
-      (call (dot (value (on 10 24) "y") (on 10 26) "put" (void_value (on 10 31) ∷ [])) ∷ []) ∷ [])
-      None ∷ [])
-      ∷ class_a ∷ [])
-      ≡ []
-  -- if attached {A} x as y then y.put (Void) end
-  pub other_spelling :
-      body_faults
-      (app
-      (if_true
-      (branch
-      (test (on 10 10) (Some (plain (on 10 20) "a")) (Some (name (on 10 28) "y"))
-      (value (on 10 23) "x"))
-      (call (dot (value (on 10 35) "y") (on 10 37) "put" (void_value (on 10 42) ∷ [])) ∷ []) ∷ [])
-      None ∷ [])
-      ∷ class_a ∷ [])
-      ≡ []
+  pub tested : body_faults (tested_app ∷ class_a ∷ []) ≡ []
+  pub strict : body_faults (strict_app ∷ class_a ∷ []) ≡ breach "app" "run" code.Vuta 1 (on 10 24) "ok" ∷ []
+  pub short : body_faults (short_app ∷ class_a ∷ []) ≡ []
+  pub test_local : body_faults (test_local_app ∷ class_a ∷ []) ≡ []
+  pub other_spelling : body_faults (other_spelling_app ∷ class_a ∷ []) ≡ []
+
+-- ---- small systems
 
 -- the lengths of the first lines of the class below
 abbrev pub array_lines : List ℕ
@@ -177,6 +176,41 @@ class_k =
           ∷ [];
     }
 
+-- class B [G] feature f (x: G) do print (x.out) end end
+abbrev pub plain_formal_b : ClassT
+plain_formal_b = record (bare_class (at 7) (codes "b")) {
+  formals = formal (at 10) "g" None ∷ [];
+  features =
+      features no_clients
+      (routine_of (name (at 21) "f") (group (name (at 24) "x" ∷ []) (plain (at 27) "g") ∷ []) None []
+      (call (apply (at 33) "print" (dot (value (at 40) "x") (at 42) "out" [] ∷ [])) ∷ []) ∷ [])
+      ∷ [];
+}
+
+-- class B [G -> ANY] feature f (x: G) do print (x.out) end end
+abbrev pub constrained_formal_b : ClassT
+constrained_formal_b = record (bare_class (at 7) (codes "b")) {
+  formals = formal (at 10) "g" (Some (plain (at 15) "any")) ∷ [];
+  features =
+      features no_clients
+      (routine_of (name (at 28) "f") (group (name (at 31) "x" ∷ []) (plain (at 34) "g") ∷ []) None []
+      (call (apply (at 40) "print" (dot (value (at 47) "x") (at 49) "out" [] ∷ [])) ∷ []) ∷ [])
+      ∷ [];
+}
+
+-- class APP create make feature make local k: K do create k.make k.h end end
+abbrev pub hidden_features_app : ClassT
+hidden_features_app = record (bare_class (there 7) (codes "app")) {
+  creators = creators no_clients (name (there 18) "make" ∷ []) ∷ [];
+  features =
+      features no_clients
+      (routine_of (name (there 31) "make") [] None
+      (group (name (there 42) "k" ∷ []) (plain (there 45) "k") ∷ [])
+      (make (there 50) None (name (there 57) "k") (Some (name (there 59) "make")) []
+      ∷ call (dot (value (there 64) "k") (there 66) "h" []) ∷ []) ∷ [])
+      ∷ [];
+}
+
 -- class P feature f (x: P): ANY do Result := x end end
 abbrev pub class_p : ClassT
 class_p =
@@ -184,64 +218,31 @@ class_p =
     (routine_of (name (at 17) "f") (group (name (at 20) "x" ∷ []) (plain (at 23) "p") ∷ [])
     (Some (plain (at 27) "any")) [] (assign (name (at 34) "result") (value (at 44) "x") ∷ []) ∷ [])
 
+-- class APP inherit P redefine f end create make feature make do end f (x: P): P do Result := x end end
+abbrev pub redeclared_function_app : ClassT
+redeclared_function_app = record (bare_class (there 7) (codes "app")) {
+  parents = record (parent_clause (plain (there 19) "p")) { redefines = name (there 30) "f" ∷ [] } ∷ [];
+  creators = creators no_clients (name (there 43) "make" ∷ []) ∷ [];
+  features =
+      features no_clients
+      (procedure (name (there 56) "make") (inss_from [])
+      ∷ routine_of (name (there 68) "f") (group (name (there 71) "x" ∷ []) (plain (there 74) "p") ∷ [])
+      (Some (plain (there 78) "p")) [] (assign (name (there 83) "result") (value (there 93) "x") ∷ [])
+      ∷ [])
+      ∷ [];
+}
+
 pub record SmallSystemExamples : Type 0 where
   -- an array of attached items does not conform to one of detachable items
   pub generic_types :
       body_faults (array_app ∷ class_a ∷ [])
       ≡ breach "app" "f" code.Vbar 2 (on_array 12 12) "z" ∷ []
-  -- a formal that may be detachable: class B [G] feature f (x: G) do print (x.out) end end
-  pub plain_formal :
-      alone
-      (record (bare_class (at 7) (codes "b")) {
-        formals = formal (at 10) "g" None ∷ [];
-        features =
-            features no_clients
-            (routine_of (name (at 21) "f") (group (name (at 24) "x" ∷ []) (plain (at 27) "g") ∷ []) None []
-            (call (apply (at 33) "print" (dot (value (at 40) "x") (at 42) "out" [] ∷ [])) ∷ []) ∷ [])
-            ∷ [];
-      })
-      ≡ breach "b" "f" code.Vuta 1 (at 40) "out" ∷ []
-  -- a formal with an attached constraint: class B [G -> ANY] feature f (x: G) do print (x.out) end end
-  pub constrained_formal :
-      alone
-      (record (bare_class (at 7) (codes "b")) {
-        formals = formal (at 10) "g" (Some (plain (at 15) "any")) ∷ [];
-        features =
-            features no_clients
-            (routine_of (name (at 28) "f") (group (name (at 31) "x" ∷ []) (plain (at 34) "g") ∷ []) None []
-            (call (apply (at 40) "print" (dot (value (at 47) "x") (at 49) "out" [] ∷ [])) ∷ []) ∷ [])
-            ∷ [];
-      })
-      ≡ []
-  -- creator and feature of no client: class APP create make feature make local k: K do create k.make k.h end end
-  pub hidden_features :
-      body_faults
-      (class_k
-      ∷ (record (bare_class (there 7) (codes "app")) {
-        creators = creators no_clients (name (there 18) "make" ∷ []) ∷ [];
-        features =
-            features no_clients
-            (routine_of (name (there 31) "make") [] None
-            (group (name (there 42) "k" ∷ []) (plain (there 45) "k") ∷ [])
-            (make (there 50) None (name (there 57) "k") (Some (name (there 59) "make")) []
-            ∷ call (dot (value (there 64) "k") (there 66) "h" []) ∷ []) ∷ [])
-            ∷ [];
-      }) ∷ [])
-      ≡ breach "app" "make" code.Vgci 4 (there 50) "make"
-      ∷ breach "app" "make" code.Vuex 2 (there 66) "h" ∷ []
-  -- a redeclared function, beside P: class APP inherit P redefine f end create make feature make do end f (x: P): P
-  -- do Result := x end end
-  pub redeclared_function :
-      body_faults
-      (class_p
-      ∷ (record (bare_class (there 7) (codes "app")) {
-        parents = record (parent_clause (plain (there 19) "p")) { redefines = name (there 30) "f" ∷ [] } ∷ [];
-        creators = creators no_clients (name (there 43) "make" ∷ []) ∷ [];
-        features =
-            features no_clients
-            (procedure (name (there 56) "make") (inss_from [])
-            ∷ routine_of (name (there 68) "f") (group (name (there 71) "x" ∷ []) (plain (there 74) "p") ∷ [])
-            (Some (plain (there 78) "p")) [] (assign (name (there 83) "result") (value (there 93) "x") ∷ [])
-            ∷ []) ∷ [];
-      }) ∷ [])
-      ≡ []
+  -- a formal that may be detachable
+  pub plain_formal : alone plain_formal_b ≡ breach "b" "f" code.Vuta 1 (at 40) "out" ∷ []
+  -- a formal with an attached constraint
+  pub constrained_formal : alone constrained_formal_b ≡ []
+  -- creator and feature of no client
+  pub hidden_features : body_faults (class_k ∷ hidden_features_app ∷ [])
+      ≡ breach "app" "make" code.Vgci 4 (there 50) "make" ∷ breach "app" "make" code.Vuex 2 (there 66) "h" ∷ []
+  -- a redeclared function
+  pub redeclared_function : body_faults (class_p ∷ redeclared_function_app ∷ []) ≡ []

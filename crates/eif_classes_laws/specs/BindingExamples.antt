@@ -58,6 +58,19 @@ selected_alone = selecting ("f" ∷ []) (parent "b") ∷ []
 abbrev pub made : List Creator
 made = record { name = codes "make"; clients = texts ("any" ∷ []) } ∷ []
 
+-- inherit B B
+abbrev pub shared_parents : List ParentT
+shared_parents = parent "b" ∷ parent "b" ∷ []
+
+-- inherit C rename g as h end
+abbrev pub renamed_twice_parents : List ParentT
+renamed_twice_parents = renaming "g" "h" (parent "c") ∷ []
+
+-- inherit B rename f as h select h end C rename g as f end
+abbrev pub renamed_and_selected_parents : List ParentT
+renamed_and_selected_parents =
+    selecting ("h" ∷ []) (renaming "f" "h" (parent "b")) ∷ renaming "g" "f" (parent "c") ∷ []
+
 pub record VersionExamples : Type 0 where
   pub both_names : names (class_at (with_app b_and_c) 9)
       ≡ texts ("default_create" ∷ "f" ∷ "g" ∷ "make" ∷ "out" ∷ "print" ∷ [])
@@ -75,14 +88,9 @@ pub record VersionExamples : Type 0 where
   pub alone_names : names (class_at (with_app selected_alone) 9)
       ≡ texts ("default_create" ∷ "f" ∷ "make" ∷ "out" ∷ "print" ∷ [])
   pub no_fields : fields (class_at (with_app selected_alone) 9) ≡ []
-  -- inherit B B
-  pub shared : bound_f (parent "b" ∷ parent "b" ∷ []) ≡ Some (codes "f")
-  -- inherit C rename g as h end
-  pub renamed_twice : bound_f (renaming "g" "h" (parent "c") ∷ []) ≡ Some (codes "h")
-  -- inherit B rename f as h select h end C rename g as f end
-  pub renamed_and_selected :
-      bound_f (selecting ("h" ∷ []) (renaming "f" "h" (parent "b")) ∷ renaming "g" "f" (parent "c") ∷ [])
-      ≡ Some (codes "h")
+  pub shared : bound_f shared_parents ≡ Some (codes "f")
+  pub renamed_twice : bound_f renamed_twice_parents ≡ Some (codes "h")
+  pub renamed_and_selected : bound_f renamed_and_selected_parents ≡ Some (codes "h")
 
 pub record NoVersionExamples : Type 0 where
   -- a name of the class itself

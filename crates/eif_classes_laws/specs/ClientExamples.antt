@@ -62,14 +62,25 @@ abbrev pub redeclaring_d : ClassT
 redeclaring_d =
     declares_for ("bb" ∷ []) (routine_of "f" ∷ []) (class_d (redefining ("f" ∷ []) (parent "a") ∷ []))
 
+-- inherit A
+abbrev pub inherited_parents : List ParentT
+inherited_parents = parent "a" ∷ []
+
+-- inherit A rename f as k, g as f export {D} f end
+abbrev pub final_parents : List ParentT
+final_parents = exporting (export ("d" ∷ []) ("f" ∷ []) ∷ []) renamed ∷ []
+
+-- inherit A A export {D} f end
+abbrev pub both_parents : List ParentT
+both_parents = parent "a" ∷ exporting (export ("d" ∷ []) ("f" ∷ []) ∷ []) (parent "a") ∷ []
+
 pub record ClientExamples : Type 0 where
   pub listed : of_a "f" ≡ texts ("b" ∷ "c" ∷ [])
   pub missing_list : of_a "g" ≡ texts ("any" ∷ [])
   pub empty_list : of_a "h" ≡ []
   pub none : of_a "i" ≡ texts ("none" ∷ [])
-  -- inherit A
-  pub inherited : of_d (parent "a" ∷ []) "f" ≡ texts ("b" ∷ "c" ∷ [])
-  pub inherited_from_any : of_d (parent "a" ∷ []) "out" ≡ texts ("any" ∷ [])
+  pub inherited : of_d inherited_parents "f" ≡ texts ("b" ∷ "c" ∷ [])
+  pub inherited_from_any : of_d inherited_parents "out" ≡ texts ("any" ∷ [])
   pub named : of_d narrowed "f" ≡ texts ("d" ∷ [])
   pub all_others : of_d narrowed "g" ≡ texts ("none" ∷ [])
   pub all_of_any : of_d narrowed "out" ≡ texts ("none" ∷ [])
@@ -77,13 +88,11 @@ pub record ClientExamples : Type 0 where
   pub first_item : of_d listed_twice "f" ≡ texts ("d" ∷ [])
   pub later_item : of_d listed_twice "g" ≡ texts ("bb" ∷ [])
   pub no_item : of_d listed_twice "h" ≡ texts ("none" ∷ [])
-  -- an item names final names: inherit A rename f as k, g as f export {D} f end
-  pub final : of_d (exporting (export ("d" ∷ []) ("f" ∷ []) ∷ []) renamed ∷ []) "f" ≡ texts ("d" ∷ [])
-  pub no_final : of_d (exporting (export ("d" ∷ []) ("f" ∷ []) ∷ []) renamed ∷ []) "k"
-      ≡ texts ("b" ∷ "c" ∷ [])
-  -- all entries count: inherit A A export {D} f end
-  pub both : of_d (parent "a" ∷ exporting (export ("d" ∷ []) ("f" ∷ []) ∷ []) (parent "a") ∷ []) "f"
-      ≡ texts ("b" ∷ "c" ∷ "d" ∷ [])
+  -- an item names final names
+  pub final : of_d final_parents "f" ≡ texts ("d" ∷ [])
+  pub no_final : of_d final_parents "k" ≡ texts ("b" ∷ "c" ∷ [])
+  -- all entries count
+  pub both : of_d both_parents "f" ≡ texts ("b" ∷ "c" ∷ "d" ∷ [])
   pub redeclared : clients (class_at (with_class redeclaring_d) 9) (codes "f") ≡ texts ("bb" ∷ [])
   pub absent : of_a "nope" ≡ []
 
@@ -140,14 +149,25 @@ made_for_b = with_class (class_c first_part [])
 abbrev pub makes_c : ℕ → Bool
 makes_c k = is_creator_for (universe made_for_b) (class_at made_for_b 9) (codes "make") k
 
+-- inherit ANY rename default_create as dc end
+abbrev pub default_renamed_parents : List ParentT
+default_renamed_parents = renamed_any ∷ []
+
+-- inherit ANY rename default_create as dc select dc end ANY
+abbrev pub default_selected_parents : List ParentT
+default_selected_parents = selecting ("dc" ∷ []) renamed_any ∷ parent "any" ∷ []
+
+-- inherit ANY rename default_create as dc end ANY
+abbrev pub default_unselected_parents : List ParentT
+default_unselected_parents = renamed_any ∷ parent "any" ∷ []
+
 pub record CreatorExamples : Type 0 where
   pub parts : of_c two_parts []
       ≡ creator "make" ("b" ∷ []) ∷ creator "other" ("any" ∷ []) ∷ creator "make" ("any" ∷ []) ∷ []
   pub by_default : of_c [] [] ≡ creator "default_create" ("any" ∷ []) ∷ []
-  pub default_renamed : of_c [] (renamed_any ∷ []) ≡ creator "dc" ("any" ∷ []) ∷ []
-  pub default_selected : of_c [] (selecting ("dc" ∷ []) renamed_any ∷ parent "any" ∷ [])
-      ≡ creator "dc" ("any" ∷ []) ∷ []
-  pub default_unselected : of_c [] (renamed_any ∷ parent "any" ∷ []) ≡ []
+  pub default_renamed : of_c [] default_renamed_parents ≡ creator "dc" ("any" ∷ []) ∷ []
+  pub default_selected : of_c [] default_selected_parents ≡ creator "dc" ("any" ∷ []) ∷ []
+  pub default_unselected : of_c [] default_unselected_parents ≡ []
   -- of BOOLEAN and ARRAY
   pub boolean : creators (class_at [] 2) ≡ creator "default_create" ("any" ∷ []) ∷ []
   pub array : creators (class_at [] 5) ≡ creator "make_filled" ("any" ∷ []) ∷ []

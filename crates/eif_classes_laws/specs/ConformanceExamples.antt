@@ -10,16 +10,29 @@ use Rattle.eif_classes_laws.specs.TypesInWords.{attached, detachable, applied, a
 
 -- ---- class types
 
--- class Z end has the number 6, class B inherit Z end 7, class LINK [G] end 8, and
--- class NAMES inherit LINK [STRING] end 9, and class MIXED inherit NAMES LINK [detachable STRING] end 10
+-- class Z end
+abbrev pub class_z : ClassT
+class_z = class "z"
+
+-- class B inherit Z end
+abbrev pub class_b : ClassT
+class_b = inherits (parent "z" ∷ []) (class "b")
+
+-- class LINK [G] end
+abbrev pub link : ClassT
+link = generic (formal "g" ∷ []) (class "link")
+
+-- class NAMES inherit LINK [STRING] end
+abbrev pub name_list : ClassT
+name_list = inherits (parent_clause (of "link" (plain "string")) ∷ []) (class "names")
+
+-- class MIXED inherit NAMES LINK [detachable STRING] end
+abbrev pub mixed : ClassT
+mixed = inherits (parent "names" ∷ parent_clause (of "link" (maybe "string")) ∷ []) (class "mixed")
+
+-- Z has the number 6, B 7, LINK 8, NAMES 9, MIXED 10
 abbrev pub classes : List ClassT
-classes =
-    class "z"
-    ∷ inherits (parent "z" ∷ []) (class "b")
-    ∷ generic (formal "g" ∷ []) (class "link")
-    ∷ inherits (parent_clause (of "link" (plain "string")) ∷ []) (class "names")
-    ∷ inherits (parent "names" ∷ parent_clause (of "link" (maybe "string")) ∷ []) (class "mixed")
-    ∷ []
+classes = class_z ∷ class_b ∷ link ∷ name_list ∷ mixed ∷ []
 
 -- in Z, which has no formals
 abbrev pub fits : TyT → TyT → Bool
@@ -58,12 +71,13 @@ pub record ClassConformance : Type 0 where
 
 -- ---- formals
 
--- class BOX [G, H -> B, K -> detachable B] end has the number 11
+-- class BOX [G, H -> B, K -> detachable B] end
+abbrev pub box : ClassT
+box = generic (formal "g" ∷ constrained "h" (plain "b") ∷ constrained "k" (maybe "b") ∷ []) (class "box")
+
+-- BOX has the number 11
 abbrev pub with_box : List ClassT
-with_box =
-    classes
-    ++ generic (formal "g" ∷ constrained "h" (plain "b") ∷ constrained "k" (maybe "b") ∷ []) (class "box")
-    ∷ []
+with_box = classes ++ box ∷ []
 
 -- in BOX
 abbrev pub fits_in_box : TyT → TyT → Bool

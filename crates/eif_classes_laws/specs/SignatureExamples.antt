@@ -80,9 +80,13 @@ box =
     (field "same" (plain "g") ∷ field "sure" (sure "g") ∷ field "maybe" (maybe "g") ∷ constant_of "c" ∷ [])
     (class "box"))
 
--- BOX has the number 6, and class D inherit BOX [T] end 7
+-- class D inherit BOX [T] end
+abbrev pub boxed_d : TypeT → ClassT
+boxed_d t = inherits (parent_clause (of "box" t) ∷ []) (class "d")
+
+-- BOX has the number 6, and D 7
 abbrev pub boxes : TypeT → List ClassT
-boxes t = box ∷ inherits (parent_clause (of "box" t) ∷ []) (class "d") ∷ []
+boxes t = box ∷ boxed_d t ∷ []
 
 pub record MarkExamples : Type 0 where
   pub attached : signature_in (boxes (plain "string")) 6 "sure" ≡ function [] (attached_formal 0)
@@ -105,25 +109,31 @@ class_q = generic (formal "g" ∷ []) (declares (query "f" [] (plain "g") ∷ []
 abbrev pub q_of_string : ParentT
 q_of_string = parent_clause (of "q" (plain "string"))
 
--- P has the number 6, Q 7, and class D with these parents 8
+-- class D inherit .. end
+abbrev pub class_d : List ParentT → ClassT
+class_d parents = inherits parents (class "d")
+
+-- P has the number 6, Q 7, and D with these parents 8
 abbrev pub heir_of : List ParentT → List ClassT
-heir_of parents = class_p ∷ class_q ∷ inherits parents (class "d") ∷ []
+heir_of parents = class_p ∷ class_q ∷ class_d parents ∷ []
 
 -- class D inherit P Q [STRING] redefine f end feature f: INTEGER do end end
-abbrev pub redeclaring : List ClassT
-redeclaring =
-    class_p ∷ class_q
-    ∷ inherits (parent "p" ∷ redefining ("f" ∷ []) q_of_string ∷ [])
+abbrev pub redeclaring_d : ClassT
+redeclaring_d =
+    inherits (parent "p" ∷ redefining ("f" ∷ []) q_of_string ∷ [])
     (declares (query "f" [] (plain "integer") ∷ []) (class "d"))
-    ∷ []
+
+abbrev pub redeclaring : List ClassT
+redeclaring = class_p ∷ class_q ∷ redeclaring_d ∷ []
 
 -- class D inherit Q [STRING] redefine f end Q [STRING] redefine f end feature f: INTEGER do end end
-abbrev pub twice_redefined : List ClassT
-twice_redefined =
-    class_p ∷ class_q
-    ∷ inherits (redefining ("f" ∷ []) q_of_string ∷ redefining ("f" ∷ []) q_of_string ∷ [])
+abbrev pub twice_redefined_d : ClassT
+twice_redefined_d =
+    inherits (redefining ("f" ∷ []) q_of_string ∷ redefining ("f" ∷ []) q_of_string ∷ [])
     (declares (query "f" [] (plain "integer") ∷ []) (class "d"))
-    ∷ []
+
+abbrev pub twice_redefined : List ClassT
+twice_redefined = class_p ∷ class_q ∷ twice_redefined_d ∷ []
 
 -- the signatures of the entries of f in D, over D's formals
 abbrev pub entry_signatures : List ClassT → List Signature
@@ -136,15 +146,22 @@ precursor_signature given parent =
     option_map (λ s. s.signature)
     (precursor (λ s. s.entry) parent (signed_entries_in (universe given) (class_at given 8) (codes "f")))
 
+-- class D inherit P Q [STRING] end
+abbrev pub effective_parents : List ParentT
+effective_parents = parent "p" ∷ q_of_string ∷ []
+
+-- class D inherit P Q [STRING] undefine f end end
+abbrev pub first_parents : List ParentT
+first_parents = parent "p" ∷ undefining ("f" ∷ []) q_of_string ∷ []
+
+-- class D inherit Q [STRING] undefine f end P end
+abbrev pub first_undefined_parents : List ParentT
+first_undefined_parents = undefining ("f" ∷ []) q_of_string ∷ parent "p" ∷ []
+
 pub record SourceExamples : Type 0 where
-  -- class D inherit P Q [STRING] end
-  pub effective : signature_in (heir_of (parent "p" ∷ q_of_string ∷ [])) 8 "f" ≡ function [] string
-  -- class D inherit P Q [STRING] undefine f end end
-  pub first : signature_in (heir_of (parent "p" ∷ undefining ("f" ∷ []) q_of_string ∷ [])) 8 "f"
-      ≡ function [] (detachable 0)
-  -- class D inherit Q [STRING] undefine f end P end
-  pub first_undefined : signature_in (heir_of (undefining ("f" ∷ []) q_of_string ∷ parent "p" ∷ [])) 8 "f"
-      ≡ function [] string
+  pub effective : signature_in (heir_of effective_parents) 8 "f" ≡ function [] string
+  pub first : signature_in (heir_of first_parents) 8 "f" ≡ function [] (detachable 0)
+  pub first_undefined : signature_in (heir_of first_undefined_parents) 8 "f" ≡ function [] string
   pub declared : signature_in redeclaring 8 "f" ≡ function [] integer
   pub of_entries : entry_signatures redeclaring
       ≡ record { arguments = []; result = Some (detachable 0) }

@@ -72,19 +72,26 @@ right_creator_b = record class_b {
       ∷ []);
 }
 
+-- class B create make end
+abbrev pub unknown_creator_b : ClassT
+unknown_creator_b = creates (name (at 16) "make" ∷ []) class_b
+
+-- class B create go, go end
+abbrev pub each_rule_b : ClassT
+each_rule_b = creates (name (at 16) "go" ∷ name (at 20) "go" ∷ []) class_b
+
 pub record CreationExamples : Type 0 where
   -- VGCP.1
   pub deferred_creation : phase (deferred_creation_b ∷ []) ≡ fault_of_b code.Vgcp 1 25 "make" ∷ []
   pub deferred_without_creation : phase (deferred_without_creation_b ∷ []) ≡ []
-  -- VGCP.2: class B create make end
-  pub unknown_creator : phase (creates (name (at 16) "make" ∷ []) class_b ∷ [])
-      ≡ fault_of_b code.Vgcp 2 16 "make" ∷ []
+  -- VGCP.2
+  pub unknown_creator : phase (unknown_creator_b ∷ []) ≡ fault_of_b code.Vgcp 2 16 "make" ∷ []
   -- VGCP.3
   pub creator_with_result : phase (creator_with_result_b ∷ []) ≡ fault_of_b code.Vgcp 3 16 "make" ∷ []
   -- VGCP.4
   pub repeated_creator : phase (repeated_creator_b ∷ []) ≡ fault_of_b code.Vgcp 4 22 "make" ∷ []
-  -- each rule that a creator breaks counts: class B create go, go end
-  pub each_rule : phase (creates (name (at 16) "go" ∷ name (at 20) "go" ∷ []) class_b ∷ [])
+  -- each rule that a creator breaks counts
+  pub each_rule : phase (each_rule_b ∷ [])
       ≡ fault_of_b code.Vgcp 2 16 "go" ∷ fault_of_b code.Vgcp 2 20 "go" ∷ fault_of_b code.Vgcp 4 20 "go" ∷ []
   pub inherited_creator : phase (inherited_creator_b ∷ class_p ∷ []) ≡ []
   pub right_creator : phase (right_creator_b ∷ []) ≡ []
@@ -146,8 +153,7 @@ pub record RootExamples : Type 0 where
   pub default_creator : phase_of_root "default_create" default_creator_root ≡ []
   -- root B.make
   pub no_default_creator : phase_of_root "make" no_default_creator_root ≡ fault_of_b code.Vsrp 1 7 "make" ∷ []
-  -- what a creators part names is a creator: root B.make, class B create make end
-  pub unknown_creator : phase_of_root "make" (creates (name (at 16) "make" ∷ []) class_b)
-      ≡ fault_of_b code.Vgcp 2 16 "make" ∷ []
+  -- what a creators part names is a creator: root B.make
+  pub unknown_creator : phase_of_root "make" unknown_creator_b ≡ fault_of_b code.Vgcp 2 16 "make" ∷ []
   -- root B.make
   pub function : phase_of_root "make" function_root ≡ fault_of_b code.Vgcp 3 16 "make" ∷ []

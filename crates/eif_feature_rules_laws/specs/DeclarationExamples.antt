@@ -236,19 +236,27 @@ undefined_in_all_b = inherits (undefining (name (at 28) "f" ∷ []) (parent (at 
 abbrev pub deferred_class_marked_b : ClassT
 deferred_class_marked_b = declares (deferred_procedure (name (at 26) "f") ∷ []) (deferred_class (at 16) "b")
 
+-- class B inherit A A end
+abbrev pub shared_name_b : ClassT
+shared_name_b = inherits (parent (at 17) "a" ∷ parent (at 19) "a" ∷ []) class_b
+
+-- class B feature f deferred end end
+abbrev pub deferred_name_b : ClassT
+deferred_name_b = declares (deferred_procedure (name (at 17) "f") ∷ []) class_b
+
+-- class B inherit D end
+abbrev pub inherited_deferred_b : ClassT
+inherited_deferred_b = inherits (parent (at 17) "d" ∷ []) class_b
+
 pub record OriginExamples : Type 0 where
   -- VMFN.3
   pub clashing_name : phase (clashing_name_b ∷ class_a ∷ class_c ∷ []) ≡ fault_of_b code.Vmfn 3 7 "f" ∷ []
   pub one_undefined : phase (one_undefined_b ∷ class_a ∷ class_c ∷ []) ≡ []
-  -- class B inherit A A end
-  pub shared_name : phase (inherits (parent (at 17) "a" ∷ parent (at 19) "a" ∷ []) class_b ∷ class_a ∷ []) ≡ []
+  pub shared_name : phase (shared_name_b ∷ class_a ∷ []) ≡ []
   pub joined_with_deferred : phase (joined_with_deferred_b ∷ class_a ∷ class_d ∷ []) ≡ []
-  -- VCCH.1: class B feature f deferred end end
-  pub deferred_name : phase (declares (deferred_procedure (name (at 17) "f") ∷ []) class_b ∷ [])
-      ≡ fault_of_b code.Vcch 1 7 "f" ∷ []
-  -- class B inherit D end
-  pub inherited_deferred : phase (inherits (parent (at 17) "d" ∷ []) class_b ∷ class_d ∷ [])
-      ≡ fault_of_b code.Vcch 1 7 "f" ∷ []
+  -- VCCH.1
+  pub deferred_name : phase (deferred_name_b ∷ []) ≡ fault_of_b code.Vcch 1 7 "f" ∷ []
+  pub inherited_deferred : phase (inherited_deferred_b ∷ class_d ∷ []) ≡ fault_of_b code.Vcch 1 7 "f" ∷ []
   pub undefined_in_all : phase (undefined_in_all_b ∷ class_a ∷ []) ≡ fault_of_b code.Vcch 1 7 "f" ∷ []
   pub deferred_class_marked : phase (deferred_class_marked_b ∷ []) ≡ []
 

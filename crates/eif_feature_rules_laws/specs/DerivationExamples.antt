@@ -116,6 +116,14 @@ marks_differ_d = record class_d {
 abbrev pub undefined_above_d : ClassT
 undefined_above_d = inherits (parent (at 17) "x" ∷ parent (at 19) "m" ∷ []) class_d
 
+-- class D inherit K [ARRAY [ANY]] end
+abbrev pub large_d : ClassT
+large_d = below (of (at 17) "k" (of (at 20) "array" (plain (at 27) "any")))
+
+-- class D inherit K [ANY] end
+abbrev pub largest_d : ClassT
+largest_d = below (of (at 17) "k" (plain (at 20) "any"))
+
 -- class D inherit M K [ARRAY [ANY]] end
 abbrev pub small_and_large_d : ClassT
 small_and_large_d = record class_d {
@@ -133,12 +141,10 @@ pub record AncestorExamples : Type 0 where
   -- X breaks the rule, and what it gives L is not defined for D
   pub undefined_above : phase (undefined_above_d ∷ class_x ∷ class_m ∷ class_l ∷ [])
       ≡ fault_at class_x code.Xanc 1 (inline 1 25) (codes "l") ∷ []
-  -- XLIM.6: class D inherit K [ARRAY [ANY]] end, by which its L has 101 names
-  pub large :
-      phase (below (of (at 17) "k" (of (at 20) "array" (plain (at 27) "any"))) ∷ class_k ∷ class_l ∷ [])
-      ≡ fault_of_d code.Xlim 6 17 "l" ∷ []
-  -- class D inherit K [ANY] end, by which it has 100
-  pub largest : phase (below (of (at 17) "k" (plain (at 20) "any")) ∷ class_k ∷ class_l ∷ []) ≡ []
+  -- XLIM.6: by the clause of D its L has 101 names
+  pub large : phase (large_d ∷ class_k ∷ class_l ∷ []) ≡ fault_of_d code.Xlim 6 17 "l" ∷ []
+  -- here it has 100
+  pub largest : phase (largest_d ∷ class_k ∷ class_l ∷ []) ≡ []
   -- the first clause gives a small L and the second a large one, and XANC is not judged of them
   pub small_and_large : phase (small_and_large_d ∷ class_m ∷ class_k ∷ class_l ∷ [])
       ≡ fault_of_d code.Xlim 6 19 "l" ∷ []

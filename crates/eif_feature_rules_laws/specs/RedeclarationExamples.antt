@@ -280,23 +280,30 @@ smaller_l = of (at 17) "l" (plain (at 20) "any")
 abbrev pub below : TypeT → ClassT → ClassT
 below parent b = inherits (parent_clause parent ∷ []) b
 
+-- class B inherit L [L [ANY]] end
+abbrev pub large_b : ClassT
+large_b = below larger_l class_b
+
 -- class B inherit L [L [ANY]] redefine f end feature f do end end
-abbrev pub declaring_b : ClassT
-declaring_b =
+abbrev pub large_alone_b : ClassT
+large_alone_b =
     inherits (redefining (name (at 38) "f" ∷ []) (parent_clause larger_l) ∷ [])
     (declares (procedure (name (at 52) "f") no_inss ∷ []) class_b)
+
+-- class B inherit L [ANY] end
+abbrev pub largest_b : ClassT
+largest_b = below smaller_l class_b
 
 -- class C inherit B end
 abbrev pub class_c_below_b : ClassT
 class_c_below_b = inherits (parent (inline 2 17) "b" ∷ []) (class (inline 2 7) "c")
 
 pub record SizeExamples : Type 0 where
-  -- XLIM.9: class B inherit L [L [ANY]] end
-  pub large : phase (below larger_l class_b ∷ class_l ∷ []) ≡ fault_of_b code.Xlim 9 7 "f" ∷ []
-  -- of that name nothing else is judged: class B inherit L [L [ANY]] redefine f end feature f do end end
-  pub large_alone : phase (declaring_b ∷ class_l ∷ []) ≡ fault_of_b code.Xlim 9 7 "f" ∷ []
-  -- class B inherit L [ANY] end
-  pub largest : phase (below smaller_l class_b ∷ class_l ∷ []) ≡ []
-  -- B's f is as large in its heir: class B inherit L [L [ANY]] end, class C inherit B end
-  pub large_below : phase (below larger_l class_b ∷ class_l ∷ class_c_below_b ∷ [])
+  -- XLIM.9
+  pub large : phase (large_b ∷ class_l ∷ []) ≡ fault_of_b code.Xlim 9 7 "f" ∷ []
+  -- of that name nothing else is judged
+  pub large_alone : phase (large_alone_b ∷ class_l ∷ []) ≡ fault_of_b code.Xlim 9 7 "f" ∷ []
+  pub largest : phase (largest_b ∷ class_l ∷ []) ≡ []
+  -- B's f is as large in its heir
+  pub large_below : phase (large_b ∷ class_l ∷ class_c_below_b ∷ [])
       ≡ fault_of_b code.Xlim 9 7 "f" ∷ fault_at class_c code.Xlim 9 (inline 2 7) (codes "f") ∷ []

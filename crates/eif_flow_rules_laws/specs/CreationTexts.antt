@@ -1,5 +1,5 @@
--- Class texts in a few words. A node of which a fault is told has its place, as have a class's name and its creators;
--- all else stands nowhere.
+-- Class texts in a few words. A node of which a fault is told has its place, as has what begins with it; a class's name
+-- and its creators have theirs where they are asked for. All else stands nowhere.
 use Prim.Native.String.{String}
 use Rattle.std.specs.Prelude.{ℕ, ◌+◌, Bool, List, [], ◌∷◌, ◌++◌, Some, None, codes, slice_get}
 use Rattle.std.specs.Option.{option_map_or}
@@ -9,6 +9,7 @@ use Rattle.eif_base.specs.declared.place.Place.{Place}
 use Rattle.eif_tree.specs.declared.tree.Literal.TheVariants as lit
 use Rattle.eif_tree.specs.declared.tree.NameAt.{NameAt}
 use Rattle.eif_tree.specs.declared.tree.Op.{Op}
+use Rattle.eif_tree.specs.ExpressionPlaces.{place_of}
 use Rattle.eif_tree.specs.Tree.{TypeT, Ex, literal, current_value, unqualified, precursor, qualified, test, unary, binary, no_exs, Ins, assign, call, create, choose, loop, routine, DeclT, ParentT, ClassT}
 use Rattle.eif_tree.specs.View.{exs_from, inss_from, branches_from, otherwise_from}
 use Rattle.eif_system.specs.Kernel.{kernel_count}
@@ -56,7 +57,7 @@ any s = the nowhere s
 
 -- e.f (a)
 abbrev pub dot : Ex → String → List Ex → Ex
-dot e s args = qualified nowhere e (name s) (exs_from args)
+dot e s args = qualified (place_of e) e (name s) (exs_from args)
 
 -- attached e as y
 abbrev pub is_there : String → Ex → Ex
@@ -68,7 +69,7 @@ one o e = unary nowhere o e
 
 -- l and r
 abbrev pub two : Op → Ex → Ex → Ex
-two o l r = binary nowhere o nowhere l r
+two o l r = binary (place_of l) o nowhere l r
 
 -- ---- instructions
 

@@ -32,19 +32,28 @@ with_values =
     app (attribute_of (name "name") (maybe "string") ∷ attribute_of (name "count") (plain "integer")
     ∷ routine_of "make" (show (any "name") ∷ show (any "count") ∷ []) ∷ [])
 
+-- if True then name := "a" end
+abbrev pub in_one_branch_app : ClassT
+in_one_branch_app = with_name (when (truth true) (fill "name" ∷ []) ∷ [])
+
+-- if True then name := "a" else name := "a" end
+abbrev pub in_both_app : ClassT
+in_both_app = with_name (when_else (truth true) (fill "name" ∷ []) (fill "name" ∷ []) ∷ [])
+
+-- if True then name := "a" elseif False then else name := "a" end
+abbrev pub in_two_of_three_app : ClassT
+in_two_of_three_app = with_name (
+    when_elseif (truth true) (fill "name" ∷ []) (truth false) [] (fill "name" ∷ []) ∷ [])
+
+-- nothing
+abbrev pub in_none_app : ClassT
+in_none_app = with_name []
+
 pub record BranchExamples : Type 0 where
-  -- if True then name := "a" end
-  pub in_one_branch : faults_alone (with_name (when (truth true) (fill "name" ∷ []) ∷ [])) ≡ name_is_left
-  -- if True then name := "a" else name := "a" end
-  pub in_both :
-      faults_alone (with_name (when_else (truth true) (fill "name" ∷ []) (fill "name" ∷ []) ∷ [])) ≡ []
-  -- if True then name := "a" elseif False then else name := "a" end
-  pub in_two_of_three :
-      faults_alone (with_name (
-      when_elseif (truth true) (fill "name" ∷ []) (truth false) [] (fill "name" ∷ []) ∷ []))
-      ≡ name_is_left
-  -- nothing
-  pub in_none : faults_alone (with_name []) ≡ name_is_left
+  pub in_one_branch : faults_alone in_one_branch_app ≡ name_is_left
+  pub in_both : faults_alone in_both_app ≡ []
+  pub in_two_of_three : faults_alone in_two_of_three_app ≡ name_is_left
+  pub in_none : faults_alone in_none_app ≡ name_is_left
   pub by_default : faults_alone without_creator
       ≡ fault_in without_creator (codes "default_create") code.Vevi 4 (at 7) (codes "name") ∷ []
   pub values_from_the_start : faults_alone with_values ≡ []
@@ -77,14 +86,21 @@ current_in line = spot 0 (10 ∷ 12 ∷ 8 ∷ 15 ∷ 7 ∷ 10 ∷ 15 ∷ 7 ∷ 1
 abbrev pub put_current : ℕ → Ins
 put_current line = perform (dot (any "other") "put" (me (current_in line) ∷ []))
 
--- class A feature ..
+-- class A feature end
 abbrev pub class_a : ClassT
 class_a = class nowhere "a" []
 
+-- other.put (Current) name := "a"
+abbrev pub before_app : ClassT
+before_app = with_other (put_current 10 ∷ fill "name" ∷ [])
+
+-- name := "a" other.put (Current)
+abbrev pub behind_app : ClassT
+behind_app = with_other (fill "name" ∷ put_current 11 ∷ [])
+
 pub record CurrentExamples : Type 0 where
-  pub before : faults_of (with_other (put_current 10 ∷ fill "name" ∷ []) ∷ class_a ∷ []) 0
-      ≡ needs (with_other []) (current_in 10) "name" ∷ []
-  pub behind : faults_of (with_other (fill "name" ∷ put_current 11 ∷ []) ∷ class_a ∷ []) 0 ≡ []
+  pub before : faults_of (before_app ∷ class_a ∷ []) 0 ≡ needs (with_other []) (current_in 10) "name" ∷ []
+  pub behind : faults_of (behind_app ∷ class_a ∷ []) 0 ≡ []
 
 -- ---- loops
 
@@ -94,15 +110,23 @@ abbrev pub with_loop : Ins → ClassT
 with_loop i =
     app (field "name" ∷ routine_of "make" (i ∷ []) ∷ function_of "fill" "boolean" (fill "name" ∷ []) ∷ [])
 
+-- from name := "a" until True loop print (name) end
+abbrev pub set_at_start_app : ClassT
+set_at_start_app = with_loop (until (fill "name" ∷ []) (truth true) (show (any "name") ∷ []))
+
+-- from until True loop name := "a" end
+abbrev pub set_in_body_app : ClassT
+set_in_body_app = with_loop (until [] (truth true) (fill "name" ∷ []))
+
+-- from until fill loop print (name) end
+abbrev pub set_by_exit_app : ClassT
+set_by_exit_app = with_loop (until [] (any "fill") (show (the (at 80) "name") ∷ []))
+
 pub record LoopExamples : Type 0 where
-  -- from name := "a" until True loop print (name) end
-  pub set_at_start :
-      faults_alone (with_loop (until (fill "name" ∷ []) (truth true) (show (any "name") ∷ []))) ≡ []
-  -- from until True loop name := "a" end
-  pub set_in_body : faults_alone (with_loop (until [] (truth true) (fill "name" ∷ [])))
-      ≡ leaves (with_loop (make "name")) (at 18) "name" ∷ []
-  -- from until fill loop print (name) end: what the exit sets counts nowhere
-  pub set_by_exit : faults_alone (with_loop (until [] (any "fill") (show (the (at 80) "name") ∷ [])))
+  pub set_at_start : faults_alone set_at_start_app ≡ []
+  pub set_in_body : faults_alone set_in_body_app ≡ leaves (with_loop (make "name")) (at 18) "name" ∷ []
+  -- what the exit sets counts nowhere
+  pub set_by_exit : faults_alone set_by_exit_app
       ≡ needs (with_loop (make "name")) (at 80) "name" ∷ leaves (with_loop (make "name")) (at 18) "name" ∷ []
 
 -- ---- several creators, and one that is not named
@@ -132,7 +156,7 @@ pub record SeveralExamples : Type 0 where
 
 -- ---- inherited creators
 
--- class PERSON create make feature name: STRING make do name := "p" end end
+-- class PERSON create make feature name: STRING make do name := "a" end end
 abbrev pub person : ClassT
 person = creating nowhere (class nowhere "person" (field "name" ∷ routine_of "make" (fill "name" ∷ []) ∷ []))
 

@@ -21,7 +21,7 @@ class_k =
     ∷ when (is_there "y" (any "x")) (show (any "y") ∷ perform (dot (the (inline 1 109) "b") "make" []) ∷ [])
     ∷ make_by "b" "make" ∷ []) ∷ [])) { is_deferred = true }
 
--- class D inherit K create make feature y: STRING do create b.make Result := "s" end end
+-- class D inherit K create make feature y: STRING do create b.make Result := "a" end end
 abbrev pub class_d : ClassT
 class_d =
     creating (at 26) (inherits (parent "k" ∷ [])

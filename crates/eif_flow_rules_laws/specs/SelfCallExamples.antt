@@ -32,7 +32,7 @@ told needed set = Some (record { needed = Some (map codes needed); set = Some (m
 -- ---- bodies of the parent
 
 -- class APP inherit PERSON rename make as make_person end create make feature title: STRING make do make_person
--- title := "t" end end
+-- title := "a" end end
 abbrev pub both_made : ClassT
 both_made =
     creating nowhere (inherits (renaming "make" "make_person" (parent "person") ∷ [])
@@ -56,6 +56,18 @@ with_precursor is =
     creating (at 51) (inherits (redefining "make" (parent "person") ∷ [])
     (class (at 7) "app" (field "title" ∷ routine_of "make" is ∷ [])))
 
+-- nothing
+abbrev pub never_called_app : ClassT
+never_called_app = with_precursor []
+
+-- Precursor title := "a"
+abbrev pub precursor_sets_app : ClassT
+precursor_sets_app = with_precursor (perform_precursor (at 86) ∷ fill "title" ∷ [])
+
+-- title := "a"
+abbrev pub no_precursor_app : ClassT
+no_precursor_app = with_precursor (fill "title" ∷ [])
+
 -- class P create make feature f: STRING do Result := "a" end make do print (f) end end, in file 1
 abbrev pub shows_function : ClassT
 shows_function =
@@ -71,13 +83,27 @@ function_as_field =
 abbrev pub filling : String → String → ClassT
 filling s f = class nowhere s (field f ∷ routine_of "make" (fill f ∷ []) ∷ [])
 
--- class APP inherit P redefine make end Q redefine make end create make feature make do Precursor {P} end end, where P
--- sets a and Q sets b
-abbrev pub of_two : String → List ClassT
+-- class P feature a: STRING make do a := "a" end end
+abbrev pub filling_a : ClassT
+filling_a = filling "p" "a"
+
+-- class Q feature b: STRING make do b := "a" end end
+abbrev pub filling_b : ClassT
+filling_b = filling "q" "b"
+
+-- class APP inherit P redefine make end Q redefine make end create make feature make do Precursor {T} end end
+abbrev pub of_two : String → ClassT
 of_two s =
     creating nowhere (inherits (redefining "make" (parent "p") ∷ redefining "make" (parent "q") ∷ [])
     (class nowhere "app" (routine_of "make" (perform_version s ∷ []) ∷ [])))
-    ∷ filling "p" "a" ∷ filling "q" "b" ∷ []
+
+-- class APP inherit P redefine make end Q redefine make end create make feature make do Precursor {P} end end
+abbrev pub of_the_first_app : ClassT
+of_the_first_app = of_two "p"
+
+-- class APP inherit P redefine make end Q redefine make end create make feature make do Precursor {Q} end end
+abbrev pub of_the_second_app : ClassT
+of_the_second_app = of_two "q"
 
 pub record ParentExamples : Type 0 where
   pub called : faults_of (both_made ∷ person ∷ []) 0 ≡ []
@@ -89,18 +115,16 @@ pub record ParentExamples : Type 0 where
   -- the heir's version runs, and the fault stands in the parent's text
   pub redefined : faults_of (redefines_set ∷ class_p ∷ []) 0 ≡ needs redefines_set (inline 1 37) "name" ∷ []
   -- nothing is told of a body that no creator leads to
-  pub never_called : told_of (with_precursor [] ∷ person ∷ []) 6 (codes "print")
+  pub never_called : told_of (never_called_app ∷ person ∷ []) 6 (codes "print")
       ≡ Some (record { needed = None; set = None })
   pub in_the_parent : faults_of (redefines_set ∷ class_p ∷ []) 1 ≡ []
-  -- Precursor title := "t"
-  pub precursor_sets : faults_of (with_precursor (perform_precursor (at 86) ∷ fill "title" ∷ []) ∷ person ∷ []) 0
-      ≡ []
-  -- title := "t"
-  pub no_precursor : faults_of (with_precursor (fill "title" ∷ []) ∷ person ∷ []) 0
-      ≡ leaves (with_precursor []) (at 51) "name" ∷ []
-  -- Precursor {P}, Precursor {Q}: the version of the parent that is named
-  pub of_the_first : told_of (of_two "p") 6 (codes "make") ≡ told [] ("a" ∷ [])
-  pub of_the_second : told_of (of_two "q") 6 (codes "make") ≡ told [] ("b" ∷ [])
+  pub precursor_sets : faults_of (precursor_sets_app ∷ person ∷ []) 0 ≡ []
+  pub no_precursor : faults_of (no_precursor_app ∷ person ∷ []) 0 ≡ leaves (with_precursor []) (at 51) "name" ∷ []
+  -- the version of the parent that is named
+  pub of_the_first : told_of (of_the_first_app ∷ filling_a ∷ filling_b ∷ []) 6 (codes "make")
+      ≡ told [] ("a" ∷ [])
+  pub of_the_second : told_of (of_the_second_app ∷ filling_a ∷ filling_b ∷ []) 6 (codes "make")
+      ≡ told [] ("b" ∷ [])
   -- the parent's text reads what is a field in the heir, and nothing sets it
   pub redeclared_as_field : faults_of (function_as_field ∷ shows_function ∷ []) 0
       ≡ needs function_as_field (inline 1 75) "f" ∷ leaves function_as_field (at 43) "f" ∷ []
@@ -123,6 +147,14 @@ in_turns =
     app (field "name" ∷ routine_of "make" (fill "name" ∷ perform (any "odd") ∷ [])
     ∷ routine_of "even" (perform (any "odd") ∷ []) ∷ routine_of "odd" (perform (any "even") ∷ []) ∷ [])
 
+-- name := "a" if False then make end
+abbrev pub creator_app : ClassT
+creator_app = alone (fill "name" ∷ when (truth false) (perform (the (at 78) "make") ∷ []) ∷ [])
+
+-- if False then make end name := "a"
+abbrev pub creator_needs_app : ClassT
+creator_needs_app = alone (when (truth false) (perform (the (at 66) "make") ∷ []) ∷ fill "name" ∷ [])
+
 -- class P feature f do g end g do end end
 abbrev pub calls_g : ClassT
 calls_g = class nowhere "p" (routine_of "f" (perform (any "g") ∷ []) ∷ routine_of "g" [] ∷ [])
@@ -138,13 +170,9 @@ by_precursor =
 pub record CircleExamples : Type 0 where
   pub needs_all : faults_alone with_help ≡ needs with_help (at 52) "name" ∷ []
   pub helper : told_of (with_help ∷ []) 6 (codes "help") ≡ told ("name" ∷ []) []
-  -- name := "a" if False then make end: a creator is judged by its own text
-  pub creator :
-      faults_alone (alone (fill "name" ∷ when (truth false) (perform (the (at 78) "make") ∷ []) ∷ [])) ≡ []
-  -- if False then make end name := "a"
-  pub creator_needs :
-      faults_alone (alone (when (truth false) (perform (the (at 66) "make") ∷ []) ∷ fill "name" ∷ []))
-      ≡ needs (alone []) (at 66) "name" ∷ []
+  -- a creator is judged by its own text
+  pub creator : faults_alone creator_app ≡ []
+  pub creator_needs : faults_alone creator_needs_app ≡ needs (alone []) (at 66) "name" ∷ []
   pub two_bodies : faults_alone in_turns ≡ []
   pub second_body : told_of (in_turns ∷ []) 6 (codes "even") ≡ told ("name" ∷ []) []
   -- one that merely calls such a body is none of them
@@ -166,30 +194,42 @@ with_constant =
     app (declared (name "name") [] (Some (plain "string")) (constant (lit.Text (codes "a")))
     ∷ routine_of "make" (show (any "name") ∷ []) ∷ [])
 
+-- if True and fill then print (name) end
+abbrev pub strict_app : ClassT
+strict_app = with_fill (when (two And (truth true) (any "fill")) (show (any "name") ∷ []) ∷ [])
+
+-- if True and then fill then print (name) end
+abbrev pub may_not_run_app : ClassT
+may_not_run_app = with_fill (when (two AndThen (truth true) (any "fill")) (show (the (at 86) "name") ∷ []) ∷ [])
+
+-- if True and then (fill and name.is_empty) then end name := "a"
+abbrev pub set_inside_app : ClassT
+set_inside_app = with_fill (
+    when (two AndThen (truth true) (paren nowhere (two And (any "fill") (dot (any "name") "is_empty" [])))) []
+    ∷ fill "name" ∷ [])
+
+-- if True implies name.is_empty then end name := "a"
+abbrev pub needs_too_app : ClassT
+needs_too_app = with_fill (
+    when (two Implies (truth true) (dot (the (at 68) "name") "is_empty" [])) [] ∷ fill "name" ∷ [])
+
+-- if True or else fill then print (name) end
+abbrev pub or_else_app : ClassT
+or_else_app = with_fill (when (two OrElse (truth true) (any "fill")) (show (the (at 85) "name") ∷ []) ∷ [])
+
+-- if True implies fill then end
+abbrev pub implied_app : ClassT
+implied_app = with_fill (when (two Implies (truth true) (any "fill")) [] ∷ [])
+
 pub record OperandExamples : Type 0 where
-  -- if True and fill then print (name) end
-  pub strict :
-      faults_alone (with_fill (when (two And (truth true) (any "fill")) (show (any "name") ∷ []) ∷ [])) ≡ []
-  -- if True and then fill then print (name) end
-  pub may_not_run :
-      faults_alone (with_fill (when (two AndThen (truth true) (any "fill")) (show (the (at 86) "name") ∷ []) ∷ []))
+  pub strict : faults_alone strict_app ≡ []
+  pub may_not_run : faults_alone may_not_run_app
       ≡ needs (with_fill []) (at 86) "name" ∷ leaves (with_fill []) (at 18) "name" ∷ []
-  -- if True and then (fill and name.is_empty) then end name := "a": inside it what it sets counts
-  pub set_inside :
-      faults_alone (with_fill (
-      when (two AndThen (truth true) (paren nowhere (two And (any "fill") (dot (any "name") "is_empty" [])))) []
-      ∷ fill "name" ∷ []))
-      ≡ []
-  -- if True implies name.is_empty then end name := "a": what it needs counts
-  pub needs_too :
-      faults_alone (with_fill (
-      when (two Implies (truth true) (dot (the (at 68) "name") "is_empty" [])) [] ∷ fill "name" ∷ []))
-      ≡ needs (with_fill []) (at 68) "name" ∷ []
-  -- if True or else fill then print (name) end
-  pub or_else :
-      faults_alone (with_fill (when (two OrElse (truth true) (any "fill")) (show (the (at 85) "name") ∷ []) ∷ []))
+  -- inside it what it sets counts
+  pub set_inside : faults_alone set_inside_app ≡ []
+  -- what it needs counts
+  pub needs_too : faults_alone needs_too_app ≡ needs (with_fill []) (at 68) "name" ∷ []
+  pub or_else : faults_alone or_else_app
       ≡ needs (with_fill []) (at 85) "name" ∷ leaves (with_fill []) (at 18) "name" ∷ []
-  -- if True implies fill then end
-  pub implied : faults_alone (with_fill (when (two Implies (truth true) (any "fill")) [] ∷ []))
-      ≡ leaves (with_fill []) (at 18) "name" ∷ []
+  pub implied : faults_alone implied_app ≡ leaves (with_fill []) (at 18) "name" ∷ []
   pub constant_is_no_field : faults_alone with_constant ≡ []

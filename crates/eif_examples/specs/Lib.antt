@@ -1,0 +1,9 @@
+pub mod BodyRulesTrees
+pub mod Compared
+pub mod CreationFlowTrees
+pub mod Digest
+pub mod FeatureRulesTrees
+pub mod LocalFlowTrees
+pub mod Numbers
+pub mod SignatureRulesTrees
+pub mod UniverseRulesTrees
