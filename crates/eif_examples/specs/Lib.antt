@@ -1,6 +1,7 @@
 pub mod BodyRulesTrees
 pub mod Compared
 pub mod CreationFlowTrees
+pub mod CreationOrderTrees
 pub mod Digest
 pub mod FeatureRulesTrees
 pub mod LocalFlowTrees

@@ -4,6 +4,7 @@
 mod body_rules;
 mod classes;
 mod creation_flow;
+mod creation_order;
 mod expressions;
 mod feature_rules;
 mod instructions;
@@ -19,6 +20,7 @@ mod universe_rules;
 pub use body_rules::body_rules_digests;
 pub use classes::class_digest;
 pub use creation_flow::sparse_creation_flow_digests;
+pub use creation_order::sparse_creation_order_digests;
 pub use feature_rules::{feature_rules_digests, sparse_feature_rules_digests};
 pub use local_flow::local_flow_digests;
 pub use places::Places;

@@ -1,5 +1,6 @@
 use crate::body_rules::BODY_RULES;
 use crate::creation_flow::SPARSE_CREATION_FLOW;
+use crate::creation_order::SPARSE_CREATION_ORDER;
 use crate::feature_rules::{FEATURE_RULES, SPARSE_FEATURE_RULES};
 use crate::local_flow::LOCAL_FLOW;
 use crate::rows::{Row, SparseRow};
@@ -88,4 +89,9 @@ fn trees_of_local_flow(rt: HostRuntime) {
 #[test]
 fn trees_of_creation_flow(rt: HostRuntime) {
     assert_eq!(rt; other_sparse(rt.alloc(), &SPARSE_CREATION_FLOW), None);
+}
+
+#[test]
+fn trees_of_creation_order(rt: HostRuntime) {
+    assert_eq!(rt; other_sparse(rt.alloc(), &SPARSE_CREATION_ORDER), None);
 }
