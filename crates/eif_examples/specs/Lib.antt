@@ -3,8 +3,10 @@ pub mod Compared
 pub mod CreationFlowTrees
 pub mod CreationOrderTrees
 pub mod Digest
+pub mod FeatureExampleTrees
 pub mod FeatureRulesTrees
 pub mod LocalFlowTrees
 pub mod Numbers
 pub mod SignatureRulesTrees
+pub mod TypeExampleTrees
 pub mod UniverseRulesTrees

@@ -1,10 +1,12 @@
 use crate::body_rules::BODY_RULES;
 use crate::creation_flow::SPARSE_CREATION_FLOW;
 use crate::creation_order::SPARSE_CREATION_ORDER;
+use crate::feature_examples::SPARSE_FEATURE_EXAMPLES;
 use crate::feature_rules::{FEATURE_RULES, SPARSE_FEATURE_RULES};
 use crate::local_flow::LOCAL_FLOW;
 use crate::rows::{Row, SparseRow};
 use crate::signature_rules::{SIGNATURE_RULES, SPARSE_SIGNATURE_RULES};
+use crate::type_examples::SPARSE_TYPE_EXAMPLES;
 use crate::universe_rules::UNIVERSE_RULES;
 use crate::{Places, class_digest};
 use eif_lex::lex;
@@ -94,4 +96,14 @@ fn trees_of_creation_flow(rt: HostRuntime) {
 #[test]
 fn trees_of_creation_order(rt: HostRuntime) {
     assert_eq!(rt; other_sparse(rt.alloc(), &SPARSE_CREATION_ORDER), None);
+}
+
+#[test]
+fn trees_of_type_examples(rt: HostRuntime) {
+    assert_eq!(rt; other_sparse(rt.alloc(), &SPARSE_TYPE_EXAMPLES), None);
+}
+
+#[test]
+fn trees_of_feature_examples(rt: HostRuntime) {
+    assert_eq!(rt; other_sparse(rt.alloc(), &SPARSE_FEATURE_EXAMPLES), None);
 }
