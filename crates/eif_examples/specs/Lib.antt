@@ -1,3 +1,4 @@
+pub mod BindingRunTrees
 pub mod BodyRulesTrees
 pub mod Compared
 pub mod CreationFlowTrees
@@ -5,8 +6,14 @@ pub mod CreationOrderTrees
 pub mod Digest
 pub mod FeatureExampleTrees
 pub mod FeatureRulesTrees
+pub mod GenericRunTrees
+pub mod KernelRunTrees
 pub mod LocalFlowTrees
 pub mod Numbers
+pub mod OperatorRunTrees
+pub mod OrderRunTrees
+pub mod RunClasses
 pub mod SignatureRulesTrees
 pub mod TypeExampleTrees
 pub mod UniverseRulesTrees
+pub mod WrongRunTrees

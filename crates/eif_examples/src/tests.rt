@@ -1,13 +1,19 @@
+use crate::binding_runs::SPARSE_BINDING_RUNS;
 use crate::body_rules::BODY_RULES;
 use crate::creation_flow::SPARSE_CREATION_FLOW;
 use crate::creation_order::SPARSE_CREATION_ORDER;
 use crate::feature_examples::SPARSE_FEATURE_EXAMPLES;
 use crate::feature_rules::{FEATURE_RULES, SPARSE_FEATURE_RULES};
+use crate::generic_runs::SPARSE_GENERIC_RUNS;
+use crate::kernel_runs::SPARSE_KERNEL_RUNS;
 use crate::local_flow::LOCAL_FLOW;
+use crate::operator_runs::SPARSE_OPERATOR_RUNS;
+use crate::order_runs::SPARSE_ORDER_RUNS;
 use crate::rows::{Row, SparseRow};
 use crate::signature_rules::{SIGNATURE_RULES, SPARSE_SIGNATURE_RULES};
 use crate::type_examples::SPARSE_TYPE_EXAMPLES;
 use crate::universe_rules::UNIVERSE_RULES;
+use crate::wrong_runs::SPARSE_WRONG_RUNS;
 use crate::{Places, class_digest};
 use eif_lex::lex;
 use eif_parse::{ParseError, parse_class};
@@ -106,4 +112,34 @@ fn trees_of_type_examples(rt: HostRuntime) {
 #[test]
 fn trees_of_feature_examples(rt: HostRuntime) {
     assert_eq!(rt; other_sparse(rt.alloc(), &SPARSE_FEATURE_EXAMPLES), None);
+}
+
+#[test]
+fn trees_of_generic_runs(rt: HostRuntime) {
+    assert_eq!(rt; other_sparse(rt.alloc(), &SPARSE_GENERIC_RUNS), None);
+}
+
+#[test]
+fn trees_of_binding_runs(rt: HostRuntime) {
+    assert_eq!(rt; other_sparse(rt.alloc(), &SPARSE_BINDING_RUNS), None);
+}
+
+#[test]
+fn trees_of_kernel_runs(rt: HostRuntime) {
+    assert_eq!(rt; other_sparse(rt.alloc(), &SPARSE_KERNEL_RUNS), None);
+}
+
+#[test]
+fn trees_of_operator_runs(rt: HostRuntime) {
+    assert_eq!(rt; other_sparse(rt.alloc(), &SPARSE_OPERATOR_RUNS), None);
+}
+
+#[test]
+fn trees_of_order_runs(rt: HostRuntime) {
+    assert_eq!(rt; other_sparse(rt.alloc(), &SPARSE_ORDER_RUNS), None);
+}
+
+#[test]
+fn trees_of_wrong_runs(rt: HostRuntime) {
+    assert_eq!(rt; other_sparse(rt.alloc(), &SPARSE_WRONG_RUNS), None);
 }

@@ -1,0 +1,7 @@
+use Rattle.std.proofs.Common.{refl}
+use Rattle.eif_examples.specs.Digest.{mix}
+use Rattle.eif_examples.proofs.binding_runs.sparse_binding_runs_digests.Goals as goal
+
+pub returns : goal.returns
+unfolding mix
+returns c = refl
