@@ -1,4 +1,5 @@
-//! The worked examples of the rules are trees; here each is compared with what the parser gives for its class text.
+//! The worked examples of the rules, and the worked runs, are of trees; here each is compared with what the parser gives
+//! for its class text.
 #![tactic(auto)]
 
 mod binding_runs;
