@@ -9,6 +9,6 @@ use Rattle.eif_tree.specs.Tree.{ClassT}
 -- the given classes break no rule of the universe, of features, of derivations and of signatures
 pub record IsWellFormed (given : List ClassT) (root : Root) : Type 0 where
   pub universe : IsNone (UniverseBroken given root)
-  pub features : IsNone (FeaturesBroken given root)
-  pub derivations : IsNone (DerivationsBroken given root)
+  pub features : IsNone (FeaturesBroken given)
+  pub derivations : IsNone (DerivationsBroken given)
   pub signatures : IsNone (SignaturesBroken given root)

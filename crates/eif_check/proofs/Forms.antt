@@ -3,7 +3,7 @@ use Rattle.std.proofs.Common.{◌≡◌, ℕ, ◌==◌, List, [], ◌∷◌, len
 use Rattle.eif_base.specs.declared.Place.{Place}
 use Rattle.eif_tree.specs.Tree.{Ex, call, unqualified}
 use Rattle.eif_tree.specs.View.{exs_from}
-use Rattle.eif_rules.specs.PlainClasses.{no_assertions, is_plain_call}
+use Rattle.eif_system_rules.specs.PlainClasses.{no_assertions, is_plain_call}
 
 pub no_assertions_are : (es : List Ex) → no_assertions (exs_from es) ≡ (length es == 0)
 no_assertions_are [] = refl

@@ -7,7 +7,7 @@ use Rattle.eif_base.specs.declared.Fault.{Fault}
 use Rattle.eif_base.specs.declared.root.Root.{Root}
 use Rattle.eif_report.specs.Order.{Lists}
 use Rattle.eif_rules.specs.FaultForms.{FirstOf, IsNone}
-use Rattle.eif_rules.specs.SystemRules.{SystemBroken}
+use Rattle.eif_system_rules.specs.SystemRules.{SystemBroken}
 use Rattle.eif_system.specs.Kernel.{kernel, kernel_count}
 use Rattle.eif_system.specs.Universe.{universe}
 use Rattle.eif_tree.specs.Tree.{ClassT}

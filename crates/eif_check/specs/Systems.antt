@@ -4,7 +4,7 @@ use Rattle.eif_base.specs.declared.Fault.{Fault}
 use Rattle.eif_base.specs.declared.root.Root.{Root}
 use Rattle.eif_base.specs.Appends.{SomeOf}
 use Rattle.eif_tree.specs.Tree.{ClassT}
-use Rattle.eif_rules.specs.SystemRules.{SystemBroken}
+use Rattle.eif_system_rules.specs.SystemRules.{SystemBroken}
 use Rattle.eif_check.specs.TextFaults.{TextGives}
 
 -- a text has this fault

@@ -2,7 +2,7 @@ ghost use Rattle.std.specs.Prelude.{◌≡◌, ◌≤◌, [], List, length, map,
 ghost use Rattle.eif_base.specs.Appends.{Has};
 ghost use Rattle.eif_base.specs.FileLists.{texts_of};
 ghost use Rattle.eif_rules.specs.FaultForms.{IsNone};
-ghost use Rattle.eif_rules.specs.SystemRules.{BodiesBroken, SystemBroken};
+ghost use Rattle.eif_system_rules.specs.SystemRules.{BodiesBroken, SystemBroken};
 ghost use Rattle.eif_rules.specs.UniverseRules.{UniverseBroken};
 ghost use Rattle.eif_tree.specs.Tree.{ClassT};
 ghost use Rattle.eif_tree.specs.View.{class_view};

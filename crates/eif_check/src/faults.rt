@@ -4,7 +4,7 @@ ghost use Rattle.std.specs.Prelude.{◌≡◌, [], ◌++◌, find, flat_map, map
 ghost use Rattle.std.specs.Option.{option_map};
 ghost use Rattle.std.specs.Str.{bytes_eq};
 ghost use Rattle.eif_rules.specs.FaultForms.{IsNone, fault_at, fault_in};
-ghost use Rattle.eif_rules.specs.SystemRules as rules;
+ghost use Rattle.eif_system_rules.specs.SystemRules as rules;
 ghost use Rattle.eif_rules.specs.UniverseRules.{UniverseBroken};
 ghost use Rattle.eif_system.specs.WrittenTypes as written;
 ghost use Rattle.eif_tree.specs.Members as parts;

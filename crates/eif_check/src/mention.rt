@@ -4,7 +4,7 @@ ghost use Rattle.std.specs.Prelude.{◌≡◌, ◌++◌, map, flat_map, IfOk, On
 ghost use Rattle.eif_tree.specs.Members as parts;
 ghost use Rattle.eif_tree.specs.View.{class_view, creators_view, decl_view, features_view, kind_view, inss_from, instr_view};
 ghost use Rattle.eif_check.specs.Mentions.{name_at};
-ghost use Rattle.eif_rules.specs.PlainClasses as plain;
+ghost use Rattle.eif_system_rules.specs.PlainClasses as plain;
 
 use eif_base::{Memory, Name, Place};
 use eif_tree::{

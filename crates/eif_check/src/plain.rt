@@ -6,7 +6,7 @@ ghost use Rattle.eif_base.specs.Numbering.{is_among};
 ghost use Rattle.eif_tree.specs.Members as parts;
 ghost use Rattle.eif_tree.specs.View.{assertion_view, class_view, creators_view, decl_view, exs_from, features_view, inss_from, instr_view, kind_view};
 ghost use Rattle.eif_check.specs.Mentions.{name_at};
-ghost use Rattle.eif_rules.specs.PlainClasses as plain;
+ghost use Rattle.eif_system_rules.specs.PlainClasses as plain;
 
 use crate::mention::{
     Mention, client_names, creator_names, declarations, declared_names, has_name, push_called,

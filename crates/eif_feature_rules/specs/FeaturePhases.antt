@@ -60,12 +60,12 @@ each_given judge given =
     flat_map (λ x. judge (universe given) (line_of (universe given) (kernel_count + x.0))) (enumerate_from 0 given)
 
 -- those of the phase of features
-abbrev pub FeaturesBroken : List ClassT → Root → Fault → Type 0
-FeaturesBroken given root = In (each_given feature_faults given)
+abbrev pub FeaturesBroken : List ClassT → Fault → Type 0
+FeaturesBroken given = In (each_given feature_faults given)
 
 -- those of the phase of derivations
-abbrev pub DerivationsBroken : List ClassT → Root → Fault → Type 0
-DerivationsBroken given root = In (each_given class_derivation_faults given)
+abbrev pub DerivationsBroken : List ClassT → Fault → Type 0
+DerivationsBroken given = In (each_given class_derivation_faults given)
 
 -- those of the phase of signatures
 abbrev pub SignaturesBroken : List ClassT → Root → Fault → Type 0

@@ -1,4 +1,2 @@
 pub mod FaultForms
-pub mod PlainClasses
-pub mod SystemRules
 pub mod UniverseRules

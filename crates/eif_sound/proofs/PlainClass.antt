@@ -13,8 +13,8 @@ use Rattle.eif_classes.specs.Features.{declared_origin, origin}
 use Rattle.eif_classes.specs.Ancestry.{derived}
 use Rattle.eif_classes.specs.Resolution.{own_formals}
 use Rattle.eif_classes.specs.Signatures.{declared_signature, signature}
-use Rattle.eif_rules.specs.PlainClasses.{is_plain_call, has_plain_calls, is_plain_routine, is_plain_declaration}
-use Rattle.eif_rules.specs.SystemRules.{unknown_name, unknown_names}
+use Rattle.eif_system_rules.specs.PlainClasses.{is_plain_call, has_plain_calls, is_plain_routine, is_plain_declaration}
+use Rattle.eif_system_rules.specs.SystemRules.{unknown_name, unknown_names}
 use Rattle.eif_meaning.specs.KernelBodies.{built_in_body}
 use Rattle.eif_meaning.specs.System.{declaration_in, system_over}
 use Rattle.eif_sound.proofs.Tests.{and_left, and_right, is_empty, is_left_out, finds, found_has}

@@ -3,7 +3,7 @@ use Rattle.std.specs.Prelude.{ℕ, List}
 use Rattle.eif_tree.specs.Tree.{ClassT}
 use Rattle.eif_base.specs.declared.Root.{Root}
 use Rattle.eif_rules.specs.FaultForms.{IsNone}
-use Rattle.eif_rules.specs.SystemRules.{SystemBroken}
+use Rattle.eif_system_rules.specs.SystemRules.{SystemBroken}
 use Rattle.eif_meaning.specs.System.{system_of}
 use Rattle.eif_meaning.specs.Run.{run, IsWrong}
 

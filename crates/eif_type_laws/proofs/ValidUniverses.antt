@@ -129,7 +129,7 @@ module _ (given : List ClassT) where
 -- ---- all classes
 
 module _ (given : List ClassT) (root : Root) (never : IsNone (UniverseBroken given root))
-    (underived : IsNone (DerivationsBroken given root)) where
+    (underived : IsNone (DerivationsBroken given)) where
   abbrev classes : List ClassT
   classes = universe given
 

@@ -39,22 +39,22 @@ WrittenTypesAreOfTheClass =
 
 abbrev pub UniverseIsDefined : Type 0
 UniverseIsDefined =
-    (given : List ClassT) (root : Root) → IsNone (UniverseBroken given root) → IsNone (DerivationsBroken given root) →
+    (given : List ClassT) (root : Root) → IsNone (UniverseBroken given root) → IsNone (DerivationsBroken given) →
     Defined (universe given)
 
 abbrev pub ClausesAreValid : Type 0
 ClausesAreValid =
-    (given : List ClassT) (root : Root) → IsNone (UniverseBroken given root) → IsNone (DerivationsBroken given root) →
+    (given : List ClassT) (root : Root) → IsNone (UniverseBroken given root) → IsNone (DerivationsBroken given) →
     EachClause (universe given) (IsValidClause (universe given))
 
 abbrev pub WrittenTypesAreValid : Type 0
 WrittenTypesAreValid =
-    (given : List ClassT) (root : Root) → IsNone (UniverseBroken given root) → IsNone (DerivationsBroken given root) →
+    (given : List ClassT) (root : Root) → IsNone (UniverseBroken given root) → IsNone (DerivationsBroken given) →
     (d : ℕ) (c : ClassT) → slice_get (universe given) d ≡ Some c →
     OfWrittenTypes c (λ t. IsValid (universe given) d (resolved (universe given) c t))
 
 -- constraints are valid, in any class since they name no formal
 abbrev pub ConstraintsAreValid : Type 0
 ConstraintsAreValid =
-    (given : List ClassT) (root : Root) → IsNone (UniverseBroken given root) → IsNone (DerivationsBroken given root) →
+    (given : List ClassT) (root : Root) → IsNone (UniverseBroken given root) → IsNone (DerivationsBroken given) →
     (d e : ℕ) → AreValid (universe given) e (constraints_of (universe given) d)

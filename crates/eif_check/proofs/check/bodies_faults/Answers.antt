@@ -3,7 +3,7 @@ use Rattle.std.specs.Prelude.{flat_map}
 use Rattle.eif_base.specs.Appends.{In}
 use Rattle.eif_base.specs.declared.Fault.{Fault}
 use Rattle.eif_rules.specs.FaultForms.{FirstOf}
-use Rattle.eif_rules.specs.SystemRules.{not_yet, root_procedure_faults, unknown_names_in}
+use Rattle.eif_system_rules.specs.SystemRules.{not_yet, root_procedure_faults, unknown_names_in}
 use Rattle.eif_tree.specs.View.{class_view}
 use Rattle.eif_check.proofs.Phases.{first_has, has_in, later_has, none_in, not_empty}
 use Rattle.eif_check.proofs.check.bodies_faults.Goals as goal

@@ -1,7 +1,7 @@
 use Rattle.std.proofs.Common.{◌≡◌, List, map, drop, sym, ap, subst, ◌∙◌}
 use Rattle.std.proofs.lemmas.Result.{IfOk-weaker}
 use Rattle.eif_rules.specs.FaultForms.{IsNone}
-use Rattle.eif_rules.specs.SystemRules.{BodiesBroken, SystemBroken}
+use Rattle.eif_system_rules.specs.SystemRules.{BodiesBroken, SystemBroken}
 use Rattle.eif_rules.specs.UniverseRules.{UniverseBroken}
 use Rattle.eif_base.specs.Appends.{Has}
 use Rattle.eif_system.specs.Kernel.{kernel_count}

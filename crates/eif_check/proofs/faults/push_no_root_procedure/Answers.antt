@@ -1,7 +1,7 @@
 use Rattle.std.proofs.Common.{◌≡◌, List, [], ◌++◌, map, Option, Some, None, sym, ap, ◌∙◌}
 use Rattle.std.proofs.lemmas.List.{append-nil}
 use Rattle.std.specs.Option.{option_map_or}
-use Rattle.eif_rules.specs.SystemRules.{no_root_procedure}
+use Rattle.eif_system_rules.specs.SystemRules.{no_root_procedure}
 use Rattle.eif_rules.specs.UniverseRules.{root_class}
 use Rattle.eif_tree.specs.Tree.{ClassT}
 use Rattle.eif_tree.specs.View.{class_view}

@@ -1,7 +1,7 @@
 use Rattle.std.proofs.Common.{◌≡◌, ◌++◌, map, drop}
 use Rattle.std.specs.Prelude.{flat_map}
 use Rattle.eif_tree.specs.View.{class_view}
-use Rattle.eif_rules.specs.SystemRules.{unknown_names_in}
+use Rattle.eif_system_rules.specs.SystemRules.{unknown_names_in}
 use Rattle.eif_check.proofs.faults.push_unknown_names.Given as goal
 
 abbrev pub invariant-classes : goal.invariant-classes

@@ -1,7 +1,7 @@
 use Rattle.std.proofs.Common.{◌≡◌, ◌++◌, map, drop}
 use Rattle.eif_tree.specs.View.{decl_view}
 use Rattle.eif_check.specs.Mentions.{name_at}
-use Rattle.eif_rules.specs.PlainClasses.{called_by_all}
+use Rattle.eif_system_rules.specs.PlainClasses.{called_by_all}
 use Rattle.eif_check.proofs.plain.called_names.Given as goal
 
 abbrev pub invariant-decls : goal.invariant-decls

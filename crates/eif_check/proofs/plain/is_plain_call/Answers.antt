@@ -5,7 +5,7 @@ use Rattle.eif_tree.specs.declared.Expr.{the_lemmas as expr_lemmas}
 use Rattle.eif_tree.specs.declared.ExprKind.{the_lemmas as kind_lemmas}
 use Rattle.eif_tree.specs.Tree.{call, unqualified}
 use Rattle.eif_tree.specs.View.{instr_view, expr_view, exs_from}
-use Rattle.eif_rules.specs.PlainClasses.{is_plain_call}
+use Rattle.eif_system_rules.specs.PlainClasses.{is_plain_call}
 use Rattle.eif_check.proofs.Forms.{plain_call_is}
 use Rattle.eif_check.proofs.plain.is_plain_call.Goals as goal
 

@@ -1,0 +1,2 @@
+pub mod PlainClasses
+pub mod SystemRules
