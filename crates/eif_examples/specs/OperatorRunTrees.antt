@@ -6,6 +6,7 @@ use Rattle.eif_tree.specs.declared.tree.Op.TheVariants as op
 use Rattle.eif_tree.specs.Tree.{TypeT, Ex, Ins, paren, ClassT}
 use Rattle.eif_system.specs.TreeForms.{nowhere}
 use Rattle.eif_meaning.specs.BodyTexts.{plain, generic, number, text, letter, truth, nobody, the, dot, dot_with, one, two, set, show, make, make_by}
+use Rattle.eif_meaning.specs.OperatorRuns as runs
 use Rattle.eif_meaning.specs.OperatorRuns.{minus}
 use Rattle.eif_meaning.specs.RunSystems.{has, fixed, app, making}
 use Rattle.eif_meaning.specs.StoppedRuns.{shows_item, puts, minus_one, greatest, least}
@@ -39,6 +40,9 @@ sparse_operator_run_trees =
     ∷ shown (two op.Minus (minus 9223372036854775807) (number 2))
     ∷ shown (two op.Times (number 4294967296) (number 4294967296))
     ∷ shown (two op.Divide (minus 7) (number 2))
+    ∷ shown (two op.Divide runs.least (minus 1))
+    ∷ shown (one op.Minus runs.least)
+    ∷ shown (two op.Modulo runs.least (minus 1))
     ∷ shown (two op.Modulo (minus 7) (number 2))
     ∷ shown (two op.Modulo (number 7) (minus 2))
     ∷ shown (two op.Power (minus 2) (number 3))

@@ -28,6 +28,7 @@ sparse_order_run_trees =
     ∷ saying (perform (apply "nope" (said 2 ∷ [])) ∷ [])
     ∷ saying (perform (dot_with me "takes_two" (said 2 ∷ [])) ∷ [])
     ∷ saying (make_by "a" "default_create" (said 2 ∷ []) ∷ [])
+    ∷ saying (show (dot_with nobody "nope" (said 2 ∷ [])) ∷ [])
     ∷ saying (show (two op.Minus (said 1) (said 2)) ∷ [])
     ∷ saying (show (two op.Equal (said 1) (said 2)) ∷ [])
     ∷ shown (two op.AndThen (truth false) stops)

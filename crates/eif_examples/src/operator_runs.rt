@@ -6,7 +6,7 @@ ghost use Rattle.eif_examples.specs.Compared.{sparse};
 
 use crate::rows::SparseRow;
 
-pub(crate) const SPARSE_OPERATOR_RUNS: [SparseRow; 49] = [
+pub(crate) const SPARSE_OPERATOR_RUNS: [SparseRow; 52] = [
     // OperatorRuns
     (
         200801439367168345,
@@ -31,6 +31,24 @@ pub(crate) const SPARSE_OPERATOR_RUNS: [SparseRow; 49] = [
         0,
         &[],
         b"class APP create make feature make do print (-7 // 2) end end",
+    ),
+    (
+        172763963388897020,
+        0,
+        &[],
+        b"class APP create make feature make do print ((-9223372036854775807 - 1) // -1) end end",
+    ),
+    (
+        839393276530683944,
+        0,
+        &[],
+        b"class APP create make feature make do print (-(-9223372036854775807 - 1)) end end",
+    ),
+    (
+        560797648904328929,
+        0,
+        &[],
+        b"class APP create make feature make do print ((-9223372036854775807 - 1) \\\\ -1) end end",
     ),
     (
         982687404959018128,

@@ -6,7 +6,7 @@ ghost use Rattle.eif_examples.specs.Compared.{sparse};
 
 use crate::rows::SparseRow;
 
-pub(crate) const SPARSE_ORDER_RUNS: [SparseRow; 45] = [
+pub(crate) const SPARSE_ORDER_RUNS: [SparseRow; 46] = [
     // OrderRuns
     (
         948843476870483489,
@@ -37,6 +37,12 @@ pub(crate) const SPARSE_ORDER_RUNS: [SparseRow; 45] = [
         0,
         &[],
         b"class APP create make feature make local a: ANY do create a.default_create (say (2)) end say (i: INTEGER): INTEGER do print (i) Result := i end itself: APP do print (1) Result := Current end takes_two (i: INTEGER; j: INTEGER) do print (4) end end",
+    ),
+    (
+        1152814443072920317,
+        0,
+        &[],
+        b"class APP create make feature make local a: ANY do print (Void.nope (say (2))) end say (i: INTEGER): INTEGER do print (i) Result := i end itself: APP do print (1) Result := Current end takes_two (i: INTEGER; j: INTEGER) do print (4) end end",
     ),
     (
         2052948892140347357,

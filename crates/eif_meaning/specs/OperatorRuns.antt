@@ -23,9 +23,9 @@ result_of o l r = shown (two o l r)
 abbrev pub minus : ℕ → Ex
 minus n = one op.Minus (number n)
 
--- the least INTEGER, which has no literal
+-- the least INTEGER, which has no literal, as an operand
 abbrev pub least : Ex
-least = two op.Minus (minus 9223372036854775807) (number 1)
+least = paren nowhere (two op.Minus (minus 9223372036854775807) (number 1))
 
 -- shows the value of an expression beside a constant `k`
 abbrev pub with_constant : TypeT → Literal → Ex → Ran

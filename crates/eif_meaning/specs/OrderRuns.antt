@@ -67,7 +67,7 @@ OrderRuns =
     × (run_saying (perform (apply "nope" (said 2 ∷ [])) ∷ []) ≡ went_wrong no_feature (codes "2"))
     × (run_saying (perform (dot_with me "takes_two" (said 2 ∷ [])) ∷ []) ≡ went_wrong no_feature (codes "2"))
     × (run_saying (make_by "a" "default_create" (said 2 ∷ []) ∷ []) ≡ went_wrong no_feature (codes "2"))
-    × (run_saying (perform (dot_with nobody "nope" (said 2 ∷ [])) ∷ []) ≡ went_wrong void_target (codes "2"))
+    × (run_saying (show (dot_with nobody "nope" (said 2 ∷ [])) ∷ []) ≡ went_wrong void_target (codes "2"))
     -- the left operand before the right one
     × (run_saying (show (two op.Minus (said 1) (said 2)) ∷ []) ≡ finished (codes "12-1"))
     × (run_saying (show (two op.Equal (said 1) (said 2)) ∷ []) ≡ finished (codes "12False"))
