@@ -5,4 +5,5 @@ pub mod Parsed
 pub mod Systems
 pub mod TextFaults
 pub mod TextReads
+pub mod UnknownNames
 pub mod Verdicts

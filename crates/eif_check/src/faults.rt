@@ -10,10 +10,13 @@ ghost use Rattle.eif_system.specs.WrittenTypes as written;
 ghost use Rattle.eif_tree.specs.Members as parts;
 ghost use Rattle.eif_tree.specs.View.{class_view, decl_view};
 ghost use Rattle.eif_check.specs.Mentions.{name_at};
+ghost use Rattle.eif_check.specs.UnknownNames.{unknown_in, all_unknown_in};
 
-use crate::mention::{Mention, creator_names, declarations, declared_names, has_name, push_called};
+use crate::mention::{
+    Mention, creator_names, declarations, declared_names, has_name, name_set, push_called,
+};
 use crate::plain::is_plain;
-use eif_base::{Code, Fault, FaultList, Memory, Name, Root};
+use eif_base::{Code, Fault, FaultList, Memory, Name, NameSet, Root};
 use eif_tree::{ClassTree, FeatureDecl, NameAt};
 use std::alloc::Global;
 
@@ -153,15 +156,15 @@ fn push_unknown(
     out: &mut FaultList,
     class: &ClassTree,
     decl: &FeatureDecl,
-    declared: &[Mention<'_>],
+    declared: &NameSet,
     called: &[Mention<'_>],
 ) -> Result<(), Memory>
     ensures { OnOk result (out.new ≡ out.old
-        ++ flat_map (rules.unknown_name (class_view class.now) (map name_at declared.now)
-        (decl_view decl.now)) (map name_at called.now)) }
+        ++ flat_map (unknown_in (class_view class.now) declared.now (decl_view decl.now))
+        (map name_at called.now)) }
 {
     'called: for mention in called {
-        if !has_name(declared, mention.name) {
+        if !declared.has(mention.name) {
             out.push(unknown_name_fault(alloc, class, decl, mention)?)?;
         }
     }
@@ -174,15 +177,32 @@ fn push_unknown_in(
     out: &mut FaultList,
     class: &ClassTree,
     decl: &FeatureDecl,
-    declared: &[Mention<'_>],
+    declared: &NameSet,
 ) -> Result<(), Memory>
     ensures { OnOk result (out.new ≡ out.old
-        ++ rules.unknown_names (class_view class.now) (map name_at declared.now)
-        (decl_view decl.now)) }
+        ++ all_unknown_in (class_view class.now) declared.now (decl_view decl.now)) }
 {
     let mut called = Vec::new(alloc);
     push_called(&mut called, decl)?;
     push_unknown(alloc, out, class, decl, declared, &called)
+}
+
+/// Adds the faults of declarations.
+fn push_unknown_in_all(
+    alloc: Global,
+    out: &mut FaultList,
+    class: &ClassTree,
+    decls: &[&FeatureDecl],
+    declared: &NameSet,
+) -> Result<(), Memory>
+    ensures { OnOk result (out.new ≡ out.old
+        ++ flat_map (all_unknown_in (class_view class.now) declared.now)
+        (map (λ d. decl_view d.now) decls.now)) }
+{
+    'decls: for decl in decls {
+        push_unknown_in(alloc, out, class, decl, declared)?;
+    }
+    Ok(())
 }
 
 /// Adds the faults of a class.
@@ -190,10 +210,9 @@ fn push_unknown_of(alloc: Global, out: &mut FaultList, class: &ClassTree) -> Res
     ensures { OnOk result (out.new ≡ out.old ++ rules.unknown_names_in (class_view class.now)) }
 {
     let decls = declarations(alloc, class)?;
-    let declared = declared_names(alloc, &decls)?;
-    'decls: for decl in &decls {
-        push_unknown_in(alloc, out, class, decl, &declared)?;
-    }
+    let names = declared_names(alloc, &decls)?;
+    let declared = name_set(alloc, &names)?;
+    push_unknown_in_all(alloc, out, class, &decls, &declared)?;
     Ok(())
 }
 

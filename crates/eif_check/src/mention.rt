@@ -3,10 +3,10 @@
 ghost use Rattle.std.specs.Prelude.{◌≡◌, ◌++◌, map, flat_map, IfOk, OnOk};
 ghost use Rattle.eif_tree.specs.Members as parts;
 ghost use Rattle.eif_tree.specs.View.{class_view, creators_view, decl_view, features_view, kind_view, inss_from, instr_view};
-ghost use Rattle.eif_check.specs.Mentions.{name_at};
+ghost use Rattle.eif_check.specs.Mentions.{name_at, IsNameSet};
 ghost use Rattle.eif_system_rules.specs.PlainClasses as plain;
 
-use eif_base::{Memory, Name, Place};
+use eif_base::{Memory, Name, NameSet, Place};
 use eif_tree::{
     ClassTree, CreatorPart, ExprKind, FeatureClause, FeatureDecl, FeatureKind, Instr, NameAt,
 };
@@ -29,6 +29,17 @@ pub fn has_name(names: &[Mention<'_>], name: &Name) -> bool
         }
     }
     false
+}
+
+/// The set of the names.
+pub fn name_set(alloc: Global, names: &[Mention<'_>]) -> Result<NameSet, Memory>
+    ensures { IfOk result (λ s. IsNameSet s (map name_at names.now)) }
+{
+    let mut set = NameSet::new(alloc);
+    'names: for mention in names {
+        set.insert(mention.name)?;
+    }
+    Ok(set)
 }
 
 fn push_names<'t>(out: &mut Vec<Mention<'t>>, names: &'t [NameAt]) -> Result<(), Memory>

@@ -1,6 +1,6 @@
 //! Plain classes, which are all that this version judges.
 
-ghost use Rattle.std.specs.Prelude.{◌≡◌, map, flat_map, IfOk};
+ghost use Rattle.std.specs.Prelude.{◌≡◌, true, map, flat_map, IfOk};
 ghost use Rattle.std.specs.List.{list_all};
 ghost use Rattle.eif_base.specs.Numbering.{is_among};
 ghost use Rattle.eif_tree.specs.Members as parts;
@@ -11,7 +11,7 @@ ghost use Rattle.eif_system_rules.specs.PlainClasses as plain;
 use crate::mention::{
     Mention, client_names, creator_names, declarations, declared_names, has_name, push_called,
 };
-use eif_base::{Memory, Name};
+use eif_base::{Memory, Name, NameSet};
 use eif_tree::{
     Assertion, ClassTree, CreatorPart, ExprKind, FeatureClause, FeatureDecl, FeatureKind, Instr,
 };
@@ -112,15 +112,17 @@ fn has_plain_form(tree: &ClassTree) -> bool
         && no_assertions(&tree.invariants)
 }
 
-fn are_distinct(names: &[Mention<'_>]) -> bool
-    ensures { result ≡ plain.are_distinct (map name_at names.now) }
+/// Whether no name stands in the list twice.
+fn are_distinct(alloc: Global, names: &[Mention<'_>]) -> Result<bool, Memory>
+    ensures { IfOk result (λ b. b ≡ plain.are_distinct (map name_at names.now)) }
 {
-    'names: for (i, mention) in names.iter().enumerate() {
-        if has_name(&names[i + 1..], mention.name) {
-            return false;
+    let mut earlier = NameSet::new(alloc);
+    'names: for mention in names {
+        if !earlier.insert(mention.name)? {
+            return Ok(false);
         }
     }
-    true
+    Ok(true)
 }
 
 fn is_kernel_feature(name: &Name) -> bool
@@ -166,7 +168,7 @@ fn called_names<'t>(alloc: Global, decls: &[&'t FeatureDecl]) -> Result<Vec<Ment
     Ok(out)
 }
 
-/// Whether the declared names differ, the creators are declared, and no kernel feature is named.
+/// Whether the creators are declared, and no kernel feature is named. The declared names differ.
 fn has_plain_names(
     name: &Name,
     creators: &[Mention<'_>],
@@ -174,11 +176,11 @@ fn has_plain_names(
     called: &[Mention<'_>],
     clients: &[Mention<'_>],
 ) -> bool
+    requires { plain.are_distinct (map name_at declared.now) ≡ true }
     ensures { result ≡ plain.has_plain_names name.now (map name_at creators.now)
         (map name_at declared.now) (map name_at called.now) (map name_at clients.now) }
 {
-    are_distinct(declared)
-        && are_declared(creators, declared)
+    are_declared(creators, declared)
         && !is_kernel_feature(name)
         && names_no_kernel_feature(creators)
         && names_no_kernel_feature(declared)
@@ -195,6 +197,9 @@ pub fn is_plain(alloc: Global, tree: &ClassTree) -> Result<bool, Memory>
     }
     let decls = declarations(alloc, tree)?;
     let declared = declared_names(alloc, &decls)?;
+    if !are_distinct(alloc, &declared)? {
+        return Ok(false);
+    }
     let creators = creator_names(alloc, tree)?;
     let called = called_names(alloc, &decls)?;
     let clients = client_names(alloc, tree)?;
