@@ -25,7 +25,7 @@ pub fn find_name(names: &[Name], name: &Name) -> Option<usize>
 /// The names in the order of their bytes, each once. Names are numbered in 32 bits: more names than
 /// that count as want of memory.
 pub fn ordered_names(alloc: Global, names: Vec<&Name>) -> Result<Vec<Name>, Memory>
-    ensures names { IfOk result (λ ns. ns.items ≡ name_set (map (λ n. n.now) names.items)) }
+    ensures names { IfOk result (λ ns. ns.items ≡ name_set (map (λ n. n.now) names.entry.items)) }
     ensures few { IfOk result (λ ns. length ns.items < 2 ^ 32) }
 {
     let mut sorted = names;

@@ -15,7 +15,7 @@ impl Version {
 
     /// Whether there is none.
     pub fn is_deferred(self) -> bool
-        ensures { result ≡ versions.is_deferred_version self.entry }
+        ensures { result ≡ versions.is_deferred_version self }
     {
         match self {
             Version::Deferred => true,
@@ -25,7 +25,7 @@ impl Version {
 
     /// Whether it is an attribute.
     pub fn is_attribute(self) -> bool
-        ensures { result ≡ versions.is_attribute_version self.entry }
+        ensures { result ≡ versions.is_attribute_version self }
     {
         match self {
             Version::Attribute(_) => true,
@@ -35,7 +35,7 @@ impl Version {
 
     /// The declaration that it comes from.
     pub fn declaration(self) -> Option<DeclarationId>
-        ensures { result ≡ versions.declaration_id self.entry }
+        ensures { result ≡ versions.declaration_id self }
     {
         match self {
             Version::Deferred => None,
@@ -45,8 +45,8 @@ impl Version {
 
     /// Whether both come from one declaration, or both from none.
     pub fn is_same(self, other: Version) -> bool
-        ensures { result ≡ versions.same_declaration (versions.declaration_id self.entry)
-            (versions.declaration_id other.entry) }
+        ensures { result ≡ versions.same_declaration (versions.declaration_id self)
+            (versions.declaration_id other) }
     {
         match (self.declaration(), other.declaration()) {
             (None, None) => true,
