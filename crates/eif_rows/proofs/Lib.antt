@@ -1,3 +1,5 @@
 pub mod Matches
 pub mod RisingLists
 pub mod NameSets
+pub mod Searching
+pub mod Sorting

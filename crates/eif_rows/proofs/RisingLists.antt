@@ -25,7 +25,7 @@ pub or_cases : (P : Type 0) (a b : Bool) → (a || b) ≡ true → (a ≡ true �
 or_cases P true b h f g = f refl
 or_cases P false b h f g = g h
 
-or_twice : (a b : Bool) → (a || b) ≡ (a || (a || b))
+pub or_twice : (a b : Bool) → (a || b) ≡ (a || (a || b))
 or_twice true b = refl
 or_twice false b = refl
 
@@ -34,7 +34,7 @@ or_swapped true true c = refl
 or_swapped true false c = refl
 or_swapped false b c = refl
 
-equal_from_is_eq : (o : Ordering) → is_eq o ≡ true → o ≡ Equal
+pub equal_from_is_eq : (o : Ordering) → is_eq o ≡ true → o ≡ Equal
 equal_from_is_eq Less e = absurd (cc)
 equal_from_is_eq Equal e = refl
 equal_from_is_eq Greater e = absurd (cc)
