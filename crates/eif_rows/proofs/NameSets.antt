@@ -7,16 +7,14 @@ use Rattle.std.specs.Ordering.{eq_by_cmp, is_eq, nat_cmp}
 use Rattle.std.specs.Str.{bytes_eq}
 use Rattle.std.specs.declared.cmp.Ordering.{Ordering}
 use Rattle.std.specs.declared.cmp.Ordering.TheVariants.{Less, Equal, Greater}
-use Rattle.std.proofs.lemmas.Bool.{eq-eqb}
 use Rattle.std.proofs.lemmas.Bool.Decides.{nat_tests}
-use Rattle.std.proofs.lemmas.Cmp.{nat_cmp_total, nat_list_cmp_total, ranked}
-use Rattle.std.proofs.lemmas.Map.Keys.{any_passes_from_place}
+use Rattle.std.proofs.lemmas.Cmp.{nat_cmp_total, nat_eq_equiv, nat_list_cmp_total, ranked}
 use Rattle.std.proofs.lemmas.Map.Text.{is_eq-slice_cmp}
 use Rattle.eif_base.specs.Numbering.{is_among}
 use Rattle.eif_base.specs.declared.feat_id.FeatId.{FeatId}
 use Rattle.eif_classes.specs.Names.{name_cmp, name_set}
 use Rattle.eif_classes.specs.RisingLists.{in_order}
-use Rattle.eif_rows.specs.Numbers.{feature_numbers, name_of, names_of}
+use Rattle.eif_rows.specs.Numbers.{feature_numbers, names_of}
 use Rattle.eif_rows.proofs.Matches.{Match-from_map, map-from_Match}
 use Rattle.eif_rows.proofs.RisingLists.{cmp-places, has_from_place, list_any-in_order, name_order, number_order, Match-in_order, place_from_has, rising-in_order, same_rising}
 use Rattle.eif_system.specs.Graph.{is_member}
@@ -67,24 +65,30 @@ pub is_member-in_order : (xs : List ℕ) (x : ℕ) → is_member x (in_order nat
 is_member-in_order xs x =
     sym (has_number (in_order nat_cmp xs) x) ∙ (list_any-in_order number_order (λ y. y == x) xs ∙ has_number xs x)
 
-pub same_number_test : (x y : ℕ) → eq_by_cmp nat_cmp x y ≡ (y == x)
+pub same_number_test : (x y : ℕ) → eq_by_cmp nat_cmp x y ≡ (x == y)
 same_number_test x y = go (nat_cmp x y) refl
   where
-    go : (r : Ordering) → r ≡ nat_cmp x y → is_eq r ≡ (y == x)
+    go : (r : Ordering) → r ≡ nat_cmp x y → is_eq r ≡ (x == y)
     go Less e = let h : x < y = ranked x y Less e in sym (grind (arith, nat_tests))
     go Equal e = let h : x ≡ y = ranked x y Equal e in sym (grind (arith, nat_tests))
     go Greater e = let h : y < x = ranked x y Greater e in sym (grind (arith, nat_tests))
 
+tied_number : (xs : List ℕ) (x : ℕ) → list_any (eq_by_cmp nat_cmp x) xs ≡ is_member x xs
+tied_number xs x =
+    any_agrees (eq_by_cmp nat_cmp x) (λ y. y == x) (λ y. same_number_test x y ∙ nat_eq_equiv.symm x y) xs
+    ∙ has_number xs x
+
 -- rising numbers with the same members are the same
 pub same_numbers : (xs ys : List ℕ) → IsStrictlySortedBy nat_cmp xs → IsStrictlySortedBy nat_cmp ys
     → ((x : ℕ) → is_member x xs ≡ is_member x ys) → xs ≡ ys
-same_numbers xs ys h k same = same_rising number_order xs ys h k (λ x. has xs x ∙ (same x ∙ sym (has ys x)))
-  where
-    has : (zs : List ℕ) (x : ℕ) → list_any (eq_by_cmp nat_cmp x) zs ≡ is_member x zs
-    has zs x = any_agrees (eq_by_cmp nat_cmp x) (λ y. y == x) (same_number_test x) zs ∙ has_number zs x
+same_numbers xs ys h k same =
+    same_rising number_order xs ys h k (λ x. tied_number xs x ∙ (same x ∙ sym (tied_number ys x)))
 
 pub is_member-from_place : (xs : List ℕ) (i x : ℕ) → slice_get xs i ≡ Some x → is_member x xs ≡ true
-is_member-from_place xs i x e = sym (has_number xs x) ∙ any_passes_from_place (λ y. y == x) xs i x e (eq-eqb x x refl)
+is_member-from_place xs i x e = sym (tied_number xs x) ∙ has_from_place number_order xs i x e
+
+pub place-from_is_member : (xs : List ℕ) (x : ℕ) → is_member x xs ≡ true → (i : ℕ) × (slice_get xs i ≡ Some x)
+place-from_is_member xs x e = place_from_has number_order xs x (tied_number xs x ∙ e)
 
 -- ---- names by numbers
 

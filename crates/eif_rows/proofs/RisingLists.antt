@@ -207,9 +207,11 @@ module _ {A : Type 0} {cmp : A → A → Ordering} (o : IsLinearOrder cmp) where
 
 nat_cmp-suc : (i j : ℕ) (r : Ordering) → r ≡ nat_cmp i j → nat_cmp (suc i) (suc j) ≡ r
 nat_cmp-suc i j Less e =
-    let h : i < j = ranked i j Less e in let l : suc i < suc j = omega arith in sym (nat_cmp_is (suc i) (suc j) Less l)
+    let h : i < j = ranked i j Less e in let l : suc i < suc j = omega arith in
+    sym (nat_cmp_is (suc i) (suc j) Less l)
 nat_cmp-suc i j Equal e =
-    let h : i ≡ j = ranked i j Equal e in let l : suc i ≡ suc j = omega arith in sym (nat_cmp_is (suc i) (suc j) Equal l)
+    let h : i ≡ j = ranked i j Equal e in let l : suc i ≡ suc j = omega arith in
+    sym (nat_cmp_is (suc i) (suc j) Equal l)
 nat_cmp-suc i j Greater e =
     let h : j < i = ranked i j Greater e in let l : suc j < suc i = omega arith in
     sym (nat_cmp_is (suc i) (suc j) Greater l)

@@ -1,5 +1,5 @@
 -- What a search by halves says of a list whose keys rise.
-use Rattle.std.proofs.Common.{◌≡◌, ℕ, zero, suc, ◌<◌, ◌≤◌, List, [], ◌∷◌, length, get_or, map, Some, Err, refl, sym, ap, ap₂, ◌∙◌, arith, ⊎_elim}
+use Rattle.std.proofs.Common.{◌≡◌, ℕ, ◌<◌, ◌≤◌, Bool, true, false, List, [], ◌∷◌, length, get_or, map, Some, Err, refl, sym, ap, ap₂, subst, ◌∙◌, arith, ⊎_elim}
 use Rattle.std.specs.Prelude.{slice_get}
 use Rattle.std.specs.Cmp.{IsTotalOrder}
 use Rattle.std.specs.List.Sorted.{IsBinarySearchResult, IsNonDecreasingBy, IsStrictlySortedBy}
@@ -7,9 +7,13 @@ use Rattle.std.specs.Ordering.{ordering_index, ordering_reverse}
 use Rattle.std.specs.declared.cmp.Ordering.{Ordering}
 use Rattle.std.specs.declared.cmp.Ordering.TheVariants.{Less, Equal, Greater}
 use Rattle.std.proofs.lemmas.Bool.{cases_lt}
+use Rattle.std.proofs.lemmas.Cmp.{nat_list_cmp_total, tied_itself}
 use Rattle.std.proofs.lemmas.List.{get_or-map, length-map}
 use Rattle.std.proofs.lemmas.Map.Keys.{Less-from_sorted}
 use Rattle.std.proofs.lemmas.Option.{get_or_from_slice_get, slice_get_within}
+use Rattle.eif_base.specs.Numbering.{is_among}
+use Rattle.eif_classes.specs.Names.{name_cmp}
+use Rattle.eif_rows.proofs.NameSets.{place-from_is_among}
 
 module _ {A : Type 0} {cmp : A → A → Ordering} (o : IsTotalOrder cmp) where
   -- of two items the lesser compares no higher
@@ -58,3 +62,19 @@ module _ {A : Type 0} {cmp : A → A → Ordering} (o : IsTotalOrder cmp) where
 
         apart_too : Equal ≡ Greater → ⊥
         apart_too e = cc
+
+pub map_itself : {A : Type 0} (xs : List A) → map (λ x. x) xs ≡ xs
+map_itself [] = refl
+map_itself (x ∷ xs) = ap (λ ys. x ∷ ys) (map_itself xs)
+
+-- a name that it does not find among rising names is not there
+pub no_name : (ns : List (List ℕ)) → IsStrictlySortedBy name_cmp ns → (n : List ℕ) (i : ℕ)
+    → IsBinarySearchResult (λ m. name_cmp m n) ns (Err i) → is_among ns n ≡ false
+no_name ns up n i found = go (is_among ns n) refl
+  where
+    go : (b : Bool) → is_among ns n ≡ b → is_among ns n ≡ false
+    go true e =
+        let place = place-from_is_among ns n e in
+        absurd (absent nat_list_cmp_total (λ m. m) ns (subst (IsStrictlySortedBy name_cmp) (sym (map_itself ns)) up)
+        n i found place.0 n place.1 (tied_itself nat_list_cmp_total n))
+    go false e = e
