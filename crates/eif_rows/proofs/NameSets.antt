@@ -11,10 +11,11 @@ use Rattle.std.proofs.lemmas.Bool.Decides.{nat_tests}
 use Rattle.std.proofs.lemmas.Cmp.{nat_cmp_total, nat_eq_equiv, nat_list_cmp_total, ranked}
 use Rattle.std.proofs.lemmas.Map.Text.{is_eq-slice_cmp}
 use Rattle.eif_base.specs.Numbering.{is_among}
+use Rattle.eif_base.specs.declared.class_id.ClassId.{ClassId}
 use Rattle.eif_base.specs.declared.feat_id.FeatId.{FeatId}
 use Rattle.eif_classes.specs.Names.{name_cmp, name_set}
 use Rattle.eif_classes.specs.RisingLists.{in_order}
-use Rattle.eif_rows.specs.Numbers.{feature_numbers, names_of}
+use Rattle.eif_rows.specs.Numbers.{class_numbers, feature_numbers, names_of}
 use Rattle.eif_rows.proofs.Matches.{Match-from_map, map-from_Match}
 use Rattle.eif_rows.proofs.RisingLists.{cmp-places, has_from_place, list_any-in_order, name_order, number_order, Match-in_order, place_from_has, rising-in_order, same_rising}
 use Rattle.eif_system.specs.Graph.{is_member}
@@ -92,6 +93,30 @@ place-from_is_member xs x e = place_from_has number_order xs x (tied_number xs x
 
 -- ---- names by numbers
 
+-- where numbers of names in a rising list are put in order, their names are the set of the names
+pub names-in_order : (ns : List (List ℕ)) → IsStrictlySortedBy name_cmp ns → (numbers : List ℕ) (ms : List (List ℕ))
+    → map (slice_get ns) numbers ≡ map Some ms
+    → map (slice_get ns) (in_order nat_cmp numbers) ≡ map Some (name_set ms)
+names-in_order ns up numbers ms named =
+    map-from_Match (slice_get ns) Some (in_order nat_cmp numbers) (name_set ms)
+    (Match-in_order (λ i m. slice_get ns i ≡ Some m) (λ i j m n e f. cmp-places nat_list_cmp_total ns up i j m n e f)
+    numbers ms (Match-from_map (slice_get ns) Some numbers ms named))
+
+names_of-numbers : (ns : List (List ℕ)) (fs : List FeatId) → names_of ns fs ≡ map (slice_get ns) (feature_numbers fs)
+names_of-numbers ns [] = refl
+names_of-numbers ns (f ∷ fs) = ap (λ ms. slice_get ns f.0 ∷ ms) (names_of-numbers ns fs)
+
+-- the same of features
+pub names_of-in_order : (ns : List (List ℕ)) → IsStrictlySortedBy name_cmp ns → (ids ordered : List FeatId)
+    (ms : List (List ℕ)) → names_of ns ids ≡ map Some ms
+    → feature_numbers ordered ≡ in_order nat_cmp (feature_numbers ids) → names_of ns ordered ≡ map Some (name_set ms)
+names_of-in_order ns up ids ordered ms named is =
+    names_of-numbers ns ordered
+    ∙ (ap (map (slice_get ns)) is
+    ∙ names-in_order ns up (feature_numbers ids) ms (sym (names_of-numbers ns ids) ∙ named))
+
+-- ---- features and classes by their numbers
+
 pub features-from_numbers : (fs gs : List FeatId) → feature_numbers fs ≡ feature_numbers gs → fs ≡ gs
 features-from_numbers [] [] e = refl
 features-from_numbers [] (g ∷ gs) e = absurd (cc)
@@ -101,18 +126,11 @@ features-from_numbers (f ∷ fs) (g ∷ gs) e =
     let rest : feature_numbers fs ≡ feature_numbers gs = cc in
     ap₂ ◌∷◌ (λ i. record { 0 = first i }) (features-from_numbers fs gs rest)
 
--- where numbers of names in a rising list are put in order, their names are the set of the names
-pub names_of-in_order : (ns : List (List ℕ)) → IsStrictlySortedBy name_cmp ns → (ids ordered : List FeatId)
-    (ms : List (List ℕ)) → names_of ns ids ≡ map Some ms
-    → feature_numbers ordered ≡ in_order nat_cmp (feature_numbers ids) → names_of ns ordered ≡ map Some (name_set ms)
-names_of-in_order ns up ids ordered ms named is =
-    map_twice ordered
-    ∙ (ap (map (slice_get ns)) is
-    ∙ map-from_Match (slice_get ns) Some (in_order nat_cmp (feature_numbers ids)) (name_set ms)
-    (Match-in_order (λ i m. slice_get ns i ≡ Some m) (λ i j m n e f. cmp-places nat_list_cmp_total ns up i j m n e f)
-    (feature_numbers ids) ms
-    (Match-from_map (slice_get ns) Some (feature_numbers ids) ms (sym (map_twice ids) ∙ named))))
-  where
-    map_twice : (fs : List FeatId) → names_of ns fs ≡ map (slice_get ns) (feature_numbers fs)
-    map_twice [] = refl
-    map_twice (f ∷ fs) = ap (λ zs. slice_get ns f.0 ∷ zs) (map_twice fs)
+pub classes-from_numbers : (js ks : List ClassId) → class_numbers js ≡ class_numbers ks → js ≡ ks
+classes-from_numbers [] [] e = refl
+classes-from_numbers [] (k ∷ ks) e = absurd (cc)
+classes-from_numbers (j ∷ js) [] e = absurd (cc)
+classes-from_numbers (j ∷ js) (k ∷ ks) e =
+    let first : j.0 ≡ k.0 = cc in
+    let rest : class_numbers js ≡ class_numbers ks = cc in
+    ap₂ ◌∷◌ (λ i. record { 0 = first i }) (classes-from_numbers js ks rest)
