@@ -16,3 +16,6 @@ pub use feature::{DeclarationPlace, FeatureRow};
 pub use names::{find_name, ordered_classes, ordered_features, ordered_names};
 pub use row::{Row, rows_cross};
 pub use version::Version;
+
+#[cfg(test)]
+mod tests;
