@@ -5,3 +5,4 @@ pub mod ClassSets
 pub mod Searching
 pub mod Sorting
 pub mod AncestorLists
+pub mod VersionLaws
