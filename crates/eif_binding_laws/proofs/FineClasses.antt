@@ -174,7 +174,7 @@ among_all P (m ∷ ns) n all h = or_cases _ (bytes_eq n m) (is_among ns n) h
     (λ t. subst P (sym (same_bytes n m t)) all.0) (λ t. among_all P ns n all.1 t)
 
 module _ (u : List ClassT) (c : ClassT) (ups : Ups) (ancestors : List ℕ) where
-  decided_by : flat_map (undecided_version c) (choices u ups ancestors) ≡ [] → (k : ℕ) (m : List ℕ) →
+  pub decided_by : flat_map (undecided_version c) (choices u ups ancestors) ≡ [] → (k : ℕ) (m : List ℕ) →
       is_member k ancestors ≡ true → has_feature (line_of u k) m ≡ true →
       is_undecided (clauses c) (candidates ups k m) ≡ false
   decided_by h k m member has =

@@ -1,0 +1,4 @@
+pub mod Bound
+pub mod FaultSets
+pub mod KernelFeatures
+pub mod Wholeness
