@@ -17,18 +17,18 @@ cell_with t =
 abbrev pub cell : ClassT
 cell = cell_with (plain "g")
 
--- inherit CELL [T] create make
+-- inherit CELL [T] create make feature
 abbrev pub heir_of : String → ℕ → TypeT → ClassT
 heir_of s column t =
     creating (at column)
     (inherits (parent_clause (type_at nowhere nowhere Plain (codes "cell") (types_from (t ∷ []))) ∷ [])
     (class (at 7) s []))
 
--- class NUMBERS inherit CELL [INTEGER] create make end
+-- class NUMBERS inherit CELL [INTEGER] create make feature end
 abbrev pub numbers : ClassT
 numbers = heir_of "numbers" 45 (plain "integer")
 
--- class STRINGS inherit CELL [STRING] create make end
+-- class STRINGS inherit CELL [STRING] create make feature end
 abbrev pub strings : ClassT
 strings = heir_of "strings" 44 (plain "string")
 

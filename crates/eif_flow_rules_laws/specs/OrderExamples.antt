@@ -8,7 +8,7 @@ use Rattle.eif_flow_rules_laws.specs.CreationTexts.{at, plain, truth, me, the, a
 use Rattle.eif_flow_rules_laws.specs.SelfCallExamples.{with_fill}
 
 -- class APP create make feature name: STRING make do .. end take (s: STRING) do name := s end
--- filled: STRING do name := "a" Result := "b" end end
+-- filled: STRING do name := "a" Result := "a" end end
 abbrev pub with_filled : List Ins → ClassT
 with_filled is =
     app (field "name" ∷ routine_of "make" is
