@@ -1,0 +1,7 @@
+pub mod Lines
+pub mod Clauses
+pub mod Heirs
+pub mod Picking
+pub mod Selecting
+pub mod Kept
+pub mod Ancestors

@@ -1,0 +1,4 @@
+pub mod Picked
+pub mod Candidacy
+pub mod Ancestors
+pub mod Chosen

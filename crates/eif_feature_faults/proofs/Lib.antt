@@ -1,0 +1,6 @@
+pub mod Beside
+pub mod InTurn
+pub mod LiteralTypes
+pub mod NameCounts
+pub mod Selecting
+pub mod VersionFaults

@@ -1,0 +1,16 @@
+pub mod AdaptedInTurn
+pub mod DeclaredInTurn
+pub mod ParentsNamed
+pub mod SeenRows
+pub mod WrittenClauses
+pub mod Pairs
+pub mod Places
+pub mod Texts
+pub mod FoundEntries
+pub mod SameNames
+pub mod Collecting
+pub mod Made
+pub mod VersionsJoined
+pub mod ClientSets
+pub mod DeclaredFirst
+pub mod Drafted

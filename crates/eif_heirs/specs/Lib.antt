@@ -1,0 +1,11 @@
+pub mod AdaptedClauses
+pub mod Clauses
+pub mod DeclaredNames
+pub mod DraftForms
+pub mod DraftParts
+pub mod Drafts
+pub mod EntryParts
+pub mod Heirs
+pub mod Numbered
+pub mod RowsAbove
+pub mod SeenFeatures
