@@ -1,9 +1,9 @@
 -- Selected names and candidates: by numbers and by names, by sets and by lists.
 use Rattle.std.proofs.Common.{◌≡◌, ℕ, ◌+◌, ◌≤◌, Bool, true, false, List, [], ◌∷◌, ◌++◌, length, map, drop, Some, refl, sym, ap, ap₂, subst, ◌∙◌, arith}
 use Rattle.std.proofs.lemmas.Bool.{eqb-true}
-use Rattle.std.proofs.lemmas.List.{append-nil, drop_all, drop_more}
+use Rattle.std.proofs.lemmas.List.{drop_all, drop_more}
 use Rattle.std.proofs.lemmas.Option.{same_Some, slice_get_within, get_or_from_slice_get}
-use Rattle.std.specs.List.{filter, flat_map, list_all, enumerate_from}
+use Rattle.std.specs.List.{filter, flat_map, list_all}
 use Rattle.std.specs.Prelude.{slice_get, not, ◌&&◌, ◌||◌, ◌==◌, is_none, if◌then◌else◌}
 use Rattle.std.specs.Str.{bytes_eq}
 use Rattle.eif_adapt.specs.Adaptations.{Adaptation, adapted, entry_view}
@@ -20,15 +20,15 @@ use Rattle.eif_feature_faults.specs.Selected.{needless_by, clause_needless, unde
 use Rattle.eif_feature_rules.specs.ClauseRules.{each_listed}
 use Rattle.eif_feature_rules.specs.ParentFeatures.{ParentFeature, final_names, parent_features}
 use Rattle.eif_feature_rules.specs.RuleForms.{each_clause, with_earlier}
-use Rattle.eif_feature_rules.specs.SelectionRules.{needless_select, clause_selection_faults, undecided_version, is_choice, is_undecided, least}
-use Rattle.eif_heirs.specs.Clauses.{ups_in, IsClause}
+use Rattle.eif_feature_rules.specs.SelectionRules.{needless_select, clause_selection_faults, undecided_version, is_choice, least}
+use Rattle.eif_heirs.specs.Clauses.{IsClause}
 use Rattle.eif_heirs.specs.declared.clauses.Clause.{Clause}
 use Rattle.eif_rows.proofs.Matches.{length-Match}
 use Rattle.eif_rows.specs.Matched.{Match}
 use Rattle.eif_rows.specs.Numbers.{name_of, names_of}
 use Rattle.eif_rules.specs.FaultForms.{fault_at, fault_where}
 use Rattle.eif_system.specs.Inheritance.{clauses, parent_number}
-use Rattle.eif_system.specs.Lineage.{Line, Ups, up, top, line_by, ups_by, line_of}
+use Rattle.eif_system.specs.Lineage.{line_by, ups_by, line_of}
 use Rattle.eif_tree.specs.declared.tree.NameAt.{NameAt}
 use Rattle.eif_tree.specs.Members.{has_name}
 use Rattle.eif_tree.specs.Tree.{ParentT, ClassT}

@@ -1,9 +1,7 @@
 -- Candidates by the numbers of their names.
-use Rattle.std.specs.Prelude.{◌≡◌, ℕ, ◌==◌, Bool, true, not, ◌&&◌, ◌||◌, List, [], ◌∷◌, map, Some}
-use Rattle.std.specs.List.{filter, list_all}
-use Rattle.eif_base.specs.Numbering.{is_among}
+use Rattle.std.specs.Prelude.{◌≡◌, ℕ, ◌==◌, Bool, true, List, [], ◌∷◌, map, Some}
+use Rattle.std.specs.List.{list_all}
 use Rattle.eif_base.specs.declared.feat_id.FeatId.{FeatId}
-use Rattle.eif_classes.specs.Names.{are_several}
 use Rattle.eif_rows.specs.Numbers.{names_of}
 
 -- the features have these names

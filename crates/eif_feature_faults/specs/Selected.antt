@@ -1,11 +1,11 @@
 -- What is judged of selected names and of candidates, by sets of names and by the numbers of candidates.
-use Rattle.std.specs.Prelude.{◌≡◌, ℕ, Bool, not, ◌&&◌, ◌||◌, List, [], ◌∷◌, Vec, map, flat_map, Some, is_none, slice_index_or}
+use Rattle.std.specs.Prelude.{ℕ, not, ◌&&◌, List, Vec, map, is_none}
 use Rattle.std.specs.List.{filter}
 use Rattle.eif_base.specs.declared.code.Code.TheVariants as code
 use Rattle.eif_base.specs.declared.fault.Fault.{Fault}
 use Rattle.eif_base.specs.declared.feat_id.FeatId.{FeatId}
 use Rattle.eif_base.specs.Numbering.{is_among}
-use Rattle.eif_classes.specs.Names.{are_several, agreed, name_set}
+use Rattle.eif_classes.specs.Names.{are_several, agreed}
 use Rattle.eif_feature_faults.specs.Candidates.{AreNamed}
 use Rattle.eif_feature_rules.specs.ClauseRules.{each_listed}
 use Rattle.eif_feature_rules.specs.SelectionRules.{least}

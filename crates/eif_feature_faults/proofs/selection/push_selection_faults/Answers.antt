@@ -6,7 +6,6 @@ use Rattle.eif_classes.specs.Binding.{is_selected_in}
 use Rattle.eif_classes.specs.Descent.{above}
 use Rattle.eif_feature_faults.specs.Selected.{AreAllNamed, clause_needless, undecided_by}
 use Rattle.eif_feature_faults.proofs.Selecting.{clauses_are, trees_are, undecided_same}
-use Rattle.eif_feature_rules.specs.RuleForms.{each_clause}
 use Rattle.eif_feature_rules.specs.SelectionRules as rules
 use Rattle.eif_heirs.specs.Clauses.{ups_in}
 use Rattle.eif_heirs.specs.declared.clauses.Clause.{Clause}
