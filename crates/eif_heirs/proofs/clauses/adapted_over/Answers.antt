@@ -31,7 +31,7 @@ clauses-preserved c = λ u h.
     let tree = c.in-Some.tree.now in
     let parent = c.in-Some.parent.now in
     let first : iter_rest (zip_first s) ≡ trees = cc in
-    let given : iter_rest (zip_second c.zip-tree-items.result) ≡ parents = c.zip-tree-items.ensures.second in
+    let given : iter_rest (zip_second c.zip-tree-items.result) ≡ parents = c.zip-tree-items.ensures.second.0 in
     let second : iter_rest (zip_second s) ≡ parents =
     ap (λ z. iter_rest (zip_second z)) c.into_iter-tree-iterator.ensures.into_iter_gives ∙ given in
     let t = zip_turn trees parents c.clauses.yielded s c.clauses.tree-iterator c.next.new.self c.next.result first second
@@ -53,7 +53,7 @@ returns c = λ u h.
     let s = c.into_iter-tree-iterator.result in
     let i = length c.clauses.yielded in
     let first : iter_rest (zip_first s) ≡ trees = cc in
-    let given : iter_rest (zip_second c.zip-tree-items.result) ≡ parents = c.zip-tree-items.ensures.second in
+    let given : iter_rest (zip_second c.zip-tree-items.result) ≡ parents = c.zip-tree-items.ensures.second.0 in
     let second : iter_rest (zip_second s) ≡ parents =
     ap (λ z. iter_rest (zip_second z)) c.into_iter-tree-iterator.ensures.into_iter_gives ∙ given in
     let e = zip_end trees parents c.clauses.yielded s c.clauses.tree-iterator c.next.new.self c.next.result first second
