@@ -1,0 +1,6 @@
+//! The names that a declaration uses of its own class.
+#![tactic(auto)]
+
+mod used;
+
+pub use used::used_names;
