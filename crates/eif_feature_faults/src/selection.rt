@@ -90,8 +90,7 @@ fn push_needless_select(
     ensures { (before : List NameAt) → IsNameSet earlier.now before → OnOk result (out.new ≡ out.old
         ++ selected.needless_by (class_view class.now) choice.now finals.now before name.now) }
 {
-    let is_broken =
-        finals.has(&name.name) && !earlier.has(&name.name) && !choice.has(&name.name);
+    let is_broken = finals.has(&name.name) && !earlier.has(&name.name) && !choice.has(&name.name);
     let fault = LentFault::at(class, Code::Vmss, 3, name.place, &name.name);
     push_where(alloc, out, is_broken, &fault)
 }
