@@ -1,0 +1,11 @@
+pub mod States
+pub mod Flows
+pub mod Entities
+pub mod Known
+pub mod Types
+pub mod Calls
+pub mod Names
+pub mod Targets
+pub mod Creations
+pub mod Tests
+pub mod Operands
