@@ -86,7 +86,7 @@ field_held system h (character i) o n w heap e at =
     let q : None ≡ Some w = ap (λ (o : Object). o.field n) (some_is e) ∙ at in cc
 field_held system h (reference i) o n w heap e at = (heap i o e).fields n w at
 
-set_is : {A : Type 0} (o : Option A) → IsSet o → (a : A) × (o ≡ Some a)
+pub set_is : {A : Type 0} (o : Option A) → IsSet o → (a : A) × (o ≡ Some a)
 set_is None h = absurd h
 set_is (Some a) h = (a, refl)
 

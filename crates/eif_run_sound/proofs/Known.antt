@@ -22,7 +22,7 @@ use Rattle.eif_run_sound.proofs.States.{or_cases, or_left, or_right}
 
 -- ---- both lists
 
-attached_append : (k l : List Fact) (x : List ℕ)
+pub attached_append : (k l : List Fact) (x : List ℕ)
     → is_known_attached (k ++ l) x ≡ (is_known_attached k x || is_known_attached l x)
 attached_append [] l x = refl
 attached_append (attached y ∷ k) l x = or_ap (bytes_eq y x) _ _ _ (attached_append k l x)

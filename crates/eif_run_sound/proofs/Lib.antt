@@ -9,3 +9,6 @@ pub mod Targets
 pub mod Creations
 pub mod Tests
 pub mod Operands
+pub mod Expressions
+pub mod Assigned
+pub mod Instructions

@@ -105,9 +105,9 @@ local_set s k set x e h none some is =
     (subst (λ o. reads.LocalIsSet set x (or_test (or_entity (or_feature (signature s.universe s.line x)) (entity_of s x)) o))
     none h) is
 
-no_values : {system : System} (h : List Object) (ts : List Argument) (xs : Actuals) (vs : List Value) → ts ≡ []
+no_values : (system : System) (h : List Object) (ts : List Argument) (xs : Actuals) (vs : List Value) → ts ≡ []
     → AllFit system h (map (put_in xs) (types_of ts)) vs → vs ≡ []
-no_values {system = system} h ts xs vs e f = go vs (subst (λ ts. AllFit system h (map (put_in xs) (types_of ts)) vs) e f)
+no_values system h ts xs vs e f = go vs (subst (λ ts. AllFit system h (map (put_in xs) (types_of ts)) vs) e f)
   where
     go : (vs : List Value) → AllFit system h [] vs → vs ≡ []
     go [] f = refl
@@ -188,12 +188,12 @@ module _ (u : List ClassT) (laws : UniverseLaws u) (r : Running u) where
     shown : (t : TyT) (w : Seen) → signature u (line_of u class_of_text) x ≡ None → Some t ≡ result
         → Shows u r (heap_of s) t w → (IsEntity (entity r.declaration.tree x) → held_in u r s x ≡ Some w.value)
         → NameEnds s (Some w)
-    shown t w none is shows read =
+    shown t w none is here read =
         let idles = used_none p hidden x none in
         record {
           later = later_same [] s;
           good = subst (λ m. Good u r k set (behind_on u r m f) s) (sym idles) g;
-          gives = subst (λ o. Gives u r (heap_of s) o (Some w)) is shows;
+          gives = subst (λ o. Gives u r (heap_of s) o (Some w)) is here;
           read = λ v e h. read h ∙ ap (λ (w : Seen). Some w.value) (some_is e);
         }
 
@@ -204,7 +204,7 @@ module _ (u : List ClassT) (laws : UniverseLaws u) (r : Running u) where
         let free = (g.tests x b.0 b.1).1 in
         subst (λ o. Safe (bound_or o vs (entity_or_feature c x vs (entity c.tree x)) s) NameEnds) (sym b.1)
         (subst (λ vs. Safe (bound_or (Some b.0) vs (entity_or_feature c x vs (entity c.tree x)) s) NameEnds)
-        (sym (no_values (heap_of s) given r.actuals vs d.2 fit))
+        (sym (no_values system (heap_of s) given r.actuals vs d.2 fit))
         (shown t.type b.0 free.feature_none (sym t.is) b.2
         (λ h. absurd (subst IsEntity free.entity_none h))))
 
@@ -264,7 +264,7 @@ module _ (u : List ClassT) (laws : UniverseLaws u) (r : Running u) where
         not_bound (unbound k set f s x g (λ n. let q : None ≡ Some en = sym n.entity_none ∙ is in cc))
         (subst (λ o. Safe (entity_or_feature c x vs o s) NameEnds) (sym is)
         (subst (λ vs. Safe (entity_or_feature c x vs (Some en) s) NameEnds)
-        (sym (no_values (heap_of s) given r.actuals vs none fit)) h))
+        (sym (no_values system (heap_of s) given r.actuals vs none fit)) h))
 
     name_entity : (signature_none : (e : rules.Entity) → entity_of S x ≡ Some e → signature u (line_of u class_of_text) x ≡ None)
         → DenotesEntity S k x given result → reads.LocalIsSet set x (meaning S k x) → Safe (call_name c x vs s) NameEnds

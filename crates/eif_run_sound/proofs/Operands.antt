@@ -29,8 +29,8 @@ use Rattle.eif_run_sound.specs.Bodies.{Running, setting_of}
 use Rattle.eif_run_sound.specs.ExpressionRuns.{IsEntity, HidesNone}
 use Rattle.eif_run_sound.specs.Invariant.{held_in, Held}
 use Rattle.eif_run_sound.specs.UniverseLaws.{UniverseLaws}
-use Rattle.eif_run_sound.proofs.States.{or_left, among_left, among_right, among_cases}
-use Rattle.eif_run_sound.proofs.Known.{Apart, attached_append, usable_left, held_none, held_attached, told_none, true_or_false}
+use Rattle.eif_run_sound.proofs.States.{or_left, or_right, among_left, among_right, among_cases}
+use Rattle.eif_run_sound.proofs.Known.{Apart, attached_append, usable_left, usable_right, held_none, held_attached, told_none, true_or_false}
 use Rattle.eif_run_sound.proofs.Tests.{tested_is}
 
 -- ---- hidden names
@@ -87,6 +87,15 @@ fewer_append k l apart = record {
   usable = λ x w h. ⊎_elim
       (λ none. let q : None ≡ Some w = sym none ∙ h in cc)
       (λ none. usable_left k l x none ∙ h)
+      (apart x);
+}
+
+pub fewer_right : (k l : List Fact) → Apart k l → Fewer l (k ++ l)
+fewer_right k l apart = record {
+  attached = λ x h. attached_append k l x ∙ or_right (is_known_attached k x) (is_known_attached l x) h;
+  usable = λ x w h. ⊎_elim
+      (λ none. usable_right k l x none ∙ h)
+      (λ none. let q : None ≡ Some w = sym none ∙ h in cc)
       (apart x);
 }
 

@@ -45,6 +45,11 @@ pub among_false : (xs ys : List (List ℕ)) (x : List ℕ) → is_among (xs ++ y
     → (is_among xs x ≡ false) × (is_among ys x ≡ false)
 among_false xs ys x h = or_false (is_among xs x) (is_among ys x) (sym (list_any-append (bytes_eq x) xs ys) ∙ h)
 
+pub among_neither : (xs ys : List (List ℕ)) (x : List ℕ) → is_among xs x ≡ false → is_among ys x ≡ false
+    → is_among (xs ++ ys) x ≡ false
+among_neither xs ys x h i =
+    list_any-append (bytes_eq x) xs ys ∙ (ap (λ a. a || is_among ys x) h ∙ i)
+
 pub among_cases : {P : Type 0} (xs ys : List (List ℕ)) (x : List ℕ) → is_among (xs ++ ys) x ≡ true
     → (is_among xs x ≡ true → P) → (is_among ys x ≡ true → P) → P
 among_cases xs ys x h f g = or_cases (is_among xs x) (is_among ys x) (sym (list_any-append (bytes_eq x) xs ys) ∙ h) f g

@@ -175,7 +175,7 @@ module _ (u : List ClassT) (laws : UniverseLaws u) (r : Running u) where
       later = later_same (local_names y) s;
       good = g;
       gives = truth_shown false;
-      held = λ z x e q. subst (λ x. Held u r (facts S k n x (test p w y e)) s) (sym (told_value false z x e q)) (held_none u r s);
+      held = λ z x i q. subst (λ x. Held u r (facts S k n x (test p w y e)) s) (sym (told_value false z x i q)) (held_none u r s);
     }
 
     -- one that holds, without a local
@@ -187,7 +187,7 @@ module _ (u : List ClassT) (laws : UniverseLaws u) (r : Running u) where
       later = later_same [] s;
       good = g;
       gives = truth_shown true;
-      held = λ z x e q. subst (λ x. Held u r (facts S k n x (test p w None e)) s) (sym (told_value true z x e q))
+      held = λ z x i q. subst (λ x. Held u r (facts S k n x (test p w None e)) s) (sym (told_value true z x i q))
           (subst (λ l. Held u r l s) (sym is) (held_both u r _ [] s (name_attached h) (held_none u r s) (λ x. inr refl)));
     }
 

@@ -1,5 +1,6 @@
 -- A body that runs, and what a runner of bodies promises.
 use Rattle.std.specs.Prelude.{◌≡◌, false, List, ℕ, Option, Some, slice_get}
+use Rattle.eif_tree.specs.Members.{result_name}
 use Rattle.eif_tree.specs.Tree.{TypeT, DeclT, ClassT}
 use Rattle.eif_classes.specs.Entries.{Declaration}
 use Rattle.eif_classes.specs.Features.{declaration_of, is_attribute}
@@ -17,8 +18,9 @@ use Rattle.eif_flow_rules.specs.VersionFlows.{meanings_in, version_flow}
 use Rattle.eif_meaning.specs.Values.{Value, ClassType, Object, Store, Outcome}
 use Rattle.eif_meaning.specs.System.{System, system_over}
 use Rattle.eif_meaning.specs.Objects.{object_of}
-use Rattle.eif_meaning.specs.Frames.{Body, Runner, Frame}
+use Rattle.eif_meaning.specs.Frames.{Body, Runner, Frame, entity}
 use Rattle.eif_meaning.specs.Run.{frame}
+use Rattle.eif_valid_bodies.specs.ValidBodies.{ValidEntities}
 use Rattle.eif_run_laws.specs.ObjectTypes.{IsMade, Over}
 use Rattle.eif_run_laws.specs.Holders.{AllFit, Answers, IsHeap, Grow}
 use Rattle.eif_run_laws.specs.Steps.{Safe}
@@ -88,7 +90,12 @@ pub record Running (u : List ClassT) : Type 0 where
   pub text : ClassT
   pub at : slice_get u declaration.class_number ≡ Some text
   pub declares : declaration_of text declaration.name ≡ Some declaration.tree
-  -- it is called by the first name that it declares
+  -- a routine, called by the first name that it declares, with arguments and locals that are no features, and none
+  -- is called Result
+  pub no_field : is_attribute declaration.tree.kind ≡ false
+  pub effective : is_deferred_kind declaration.tree.kind ≡ false
+  pub entities : ValidEntities (in_body u declaration.class_number text declaration.tree)
+  pub no_result : entity declaration.tree result_name ≡ None
   pub named : (in_body u declaration.class_number text declaration.tree).declared ≡ Some declaration.name
   pub actuals : Actuals
   pub given : List Value

@@ -4,3 +4,4 @@ pub mod Invariant
 pub mod WrittenTexts
 pub mod UniverseLaws
 pub mod ExpressionRuns
+pub mod InstructionRuns

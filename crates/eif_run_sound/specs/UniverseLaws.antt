@@ -13,7 +13,7 @@ use Rattle.eif_classes.specs.Conformance.{conforms, closed_conforms}
 use Rattle.eif_classes.specs.Constraints.{base_type, is_attached}
 use Rattle.eif_classes.specs.Creators.{is_creator_for}
 use Rattle.eif_classes.specs.Entries.{Declaration, declared_as}
-use Rattle.eif_classes.specs.Features.{is_attribute, origin, declaration_of}
+use Rattle.eif_classes.specs.Features.{is_attribute, has_feature, origin, declaration_of}
 use Rattle.eif_classes.specs.KernelNumbers.{any_number, is_basic}
 use Rattle.eif_classes.specs.Precursors.{precursor}
 use Rattle.eif_classes.specs.Resolution.{resolved, own_formals}
@@ -134,6 +134,8 @@ pub record FeatureLaws (u : List ClassT) : Type 0 where
       → IsAnswered u t b x (all_closed xs g.arguments) (maybe_closed xs g.result)
   -- what is no name of the class is bound to nothing
   pub unnamed : (d k : ℕ) (x : List ℕ) → signature u (line_of u k) x ≡ None → bind (line_of u d) k x ≡ None
+  -- what is no feature has no signature
+  pub unknown : (k : ℕ) (x : List ℕ) → has_feature (line_of u k) x ≡ false → signature u (line_of u k) x ≡ None
   -- an attribute is bound to a field of its type
   pub field : (t : ClassType) → IsMade (system_over u) t → (k : ℕ) (xs : Actuals) → Over (system_over u) t k xs
       → (s : Setting) → s.universe ≡ u → s.number ≡ k → s.line ≡ line_of u k → (x : List ℕ) (g : Signature) (a : TyT)
@@ -200,6 +202,7 @@ IsNamed u y text = (in_body u y.class_number text y.tree).declared ≡ Some y.na
 pub record IsWrittenBody (u : List ClassT) (y : Declaration) (text : ClassT) (body : Inss) : Type 0 where
   pub valid : ValidDeclaration u y.class_number text y.tree
   pub named : IsNamed u y text
+  pub no_result : entity y.tree result_name ≡ None
   pub written : CompoundIsWritten (λ t. IsTypeIn u y.class_number (resolved u text t)) body
 
 pub record BodyLaws (u : List ClassT) : Type 0 where
