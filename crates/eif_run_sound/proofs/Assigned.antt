@@ -41,7 +41,7 @@ use Rattle.eif_run_laws.specs.SystemLaws.{is_final}
 use Rattle.eif_run_laws.proofs.Lists.{some_is, get_written}
 use Rattle.eif_run_laws.proofs.Growing.{grow_same, grow_field, fits_grown}
 use Rattle.eif_run_laws.proofs.Heaps.{heap_field}
-use Rattle.eif_run_sound.specs.Bodies.{Running, frame_of, setting_of, meanings_of, written, closed}
+use Rattle.eif_run_sound.specs.Bodies.{IsWrittenRoutine, Running, frame_of, setting_of, meanings_of, written, closed}
 use Rattle.eif_run_sound.specs.ExpressionRuns.{HidesNone, behind_on}
 use Rattle.eif_run_sound.specs.Fields.{Ready, due}
 use Rattle.eif_run_sound.specs.Invariant.{held_by, held_in, DenotesNothing, Held, Good, Later}
@@ -60,32 +60,35 @@ kept_usable : (b : Bool) (y : List ℕ) (k : List Fact) (x : List ℕ)
 kept_usable true y k x = refl
 kept_usable false y k x = refl
 
+gone_or : (gone : List ℕ → Bool) (y : List ℕ) (k : List Fact) (x : List ℕ) → gone x ≡ true → (b c : Bool) → gone y ≡ b
+    → bytes_eq y x ≡ c → is_known_attached (forgotten gone k) x ≡ false
+    → is_known_attached (if not b then attached y ∷ forgotten gone k else forgotten gone k) x ≡ false
+gone_or gone y k x e true c i q rest = rest
+gone_or gone y k x e false true i q rest = let n : true ≡ false = sym e ∙ (ap gone (sym (same_name y x q)) ∙ i) in cc
+gone_or gone y k x e false false i q rest = ap (λ c. c || is_known_attached (forgotten gone k) x) q ∙ rest
+
 -- nothing is known of a name that is gone
 forgotten_none : (gone : List ℕ → Bool) (k : List Fact) (x : List ℕ) → gone x ≡ true
     → is_known_attached (forgotten gone k) x ≡ false
 forgotten_none gone [] x e = refl
-forgotten_none gone (attached y ∷ k) x e = by (gone y) refl
-  where
-    by : (b : Bool) → gone y ≡ b
-        → is_known_attached (if not b then attached y ∷ forgotten gone k else forgotten gone k) x ≡ false
-    by true i = forgotten_none gone k x e
-    by false i = other (bytes_eq y x) refl
-      where
-        other : (c : Bool) → bytes_eq y x ≡ c → (c || is_known_attached (forgotten gone k) x) ≡ false
-        other true q = let n : true ≡ false = sym e ∙ (ap gone (sym (same_name y x q)) ∙ i) in cc
-        other false q = forgotten_none gone k x e
+forgotten_none gone (attached y ∷ k) x e =
+    gone_or gone y k x e (gone y) (bytes_eq y x) refl refl (forgotten_none gone k x e)
 forgotten_none gone (usable y t ∷ k) x e = forgotten_none gone k x e
+
+less_or : (gone : List ℕ → Bool) (y : List ℕ) (k : List Fact) (x : List ℕ) (b : Bool)
+    → is_known_attached (if not b then attached y ∷ forgotten gone k else forgotten gone k) x ≡ true
+    → (is_known_attached (forgotten gone k) x ≡ true → is_known_attached k x ≡ true)
+    → (bytes_eq y x || is_known_attached k x) ≡ true
+less_or gone y k x true h rest = or_right (bytes_eq y x) (is_known_attached k x) (rest h)
+less_or gone y k x false h rest =
+    or_cases (bytes_eq y x) (is_known_attached (forgotten gone k) x) h
+    (λ q. or_left (bytes_eq y x) (is_known_attached k x) q) (λ q. or_right (bytes_eq y x) (is_known_attached k x) (rest q))
 
 -- and no more than before is known of others
 forgotten_less : (gone : List ℕ → Bool) (k : List Fact) (x : List ℕ)
     → is_known_attached (forgotten gone k) x ≡ true → is_known_attached k x ≡ true
 forgotten_less gone [] x h = h
-forgotten_less gone (attached y ∷ k) x h = by (gone y) h
-  where
-    by : (b : Bool) → is_known_attached (if not b then attached y ∷ forgotten gone k else forgotten gone k) x ≡ true
-        → (bytes_eq y x || is_known_attached k x) ≡ true
-    by true h = or_right (bytes_eq y x) _ (forgotten_less gone k x h)
-    by false h = or_cases (bytes_eq y x) _ h (λ q. or_left (bytes_eq y x) _ q) (λ q. or_right (bytes_eq y x) _ (forgotten_less gone k x q))
+forgotten_less gone (attached y ∷ k) x h = less_or gone y k x (gone y) h (forgotten_less gone k x)
 forgotten_less gone (usable y t ∷ k) x h = forgotten_less gone k x h
 
 forgotten_usable : (gone : List ℕ → Bool) (k : List Fact) (x : List ℕ)
@@ -102,7 +105,7 @@ among_one x y e = or_left (bytes_eq x y) false ((bytes_eq-Decides x y).1 e)
 other_set : (set : List (List ℕ)) (x y : List ℕ) (t : TyT) → bytes_eq y x ≡ false → reads.IsSet (x ∷ set) y t → reads.IsSet set y t
 other_set set x y t e h = ap (λ b. is_self_initialising t || (b || is_among set y)) (sym e) ∙ h
 
-module _ (u : List ClassT) (laws : UniverseLaws u) (r : Running u) where
+module _ (u : List ClassT) (laws : UniverseLaws u) (r : Running u) (lawful : IsWrittenRoutine u r) where
   abbrev system : System
   system = system_over u
 
@@ -114,6 +117,12 @@ module _ (u : List ClassT) (laws : UniverseLaws u) (r : Running u) where
 
   abbrev class_of_text : ℕ
   class_of_text = r.declaration.class_number
+
+  -- the type that a local writes, or that one
+  abbrev type_by : TyT → Option frames.Entity → TyT
+  type_by t None = t
+  type_by t (Some (argument a)) = t
+  type_by t (Some (local a)) = written u r a
 
   -- ---- what stays known where x is set
 
@@ -194,10 +203,11 @@ module _ (u : List ClassT) (laws : UniverseLaws u) (r : Running u) where
     -- Result
     result_set : (a : TypeT) → r.declaration.tree.result_type ≡ Some a → written u r a ≡ t → x.name ≡ result_name
         → IsSetIn (record s { result = Some v })
+    unfolding is_local
     result_set a is type name =
         let w = record s { result = Some v } in
         let none = subst (λ n. signature u (line_of u class_of_text) n ≡ None) (sym name) (laws.features.no_result class_of_text) in
-        let no_local = is_local_none x.name (subst (λ n. entity r.declaration.tree n ≡ None) (sym name) r.no_result) in
+        let no_local = is_local_none x.name (subst (λ n. entity r.declaration.tree n ≡ None) (sym name) lawful.no_result) in
         (grow_same (heap_of s), idle_fields w none record {
           heap = g.heap;
           object = g.object;
@@ -217,7 +227,6 @@ module _ (u : List ClassT) (laws : UniverseLaws u) (r : Running u) where
         })
       where
         is_local_none : (y : List ℕ) → entity r.declaration.tree y ≡ None → is_local S y ≡ false
-        unfolding is_local
         is_local_none y e =
             ⊎_elim (λ a. let q : Some (argument a.0) ≡ None = sym a.1 ∙ e in cc)
             (λ rest. ⊎_elim (λ a. let q : Some (local a.0) ≡ None = sym a.1 ∙ e in cc)
@@ -228,7 +237,7 @@ module _ (u : List ClassT) (laws : UniverseLaws u) (r : Running u) where
             → reads.IsSet (x.name ∷ set) y (written u r b) → IsSet (s.local y)
         by_name y b e true i sure =
             let q : None ≡ Some (local b) =
-            sym r.no_result ∙ (ap (entity r.declaration.tree) (sym (same_name y x.name i ∙ name)) ∙ e) in cc
+            sym lawful.no_result ∙ (ap (entity r.declaration.tree) (sym (same_name y x.name i ∙ name)) ∙ e) in cc
         by_name y b e false i sure = g.locals_set y b e (other_set set x.name y (written u r b) i sure)
 
     -- a local
@@ -264,15 +273,10 @@ module _ (u : List ClassT) (laws : UniverseLaws u) (r : Running u) where
             → Fits system (heap_of s) (closed r (written u r b)) z
         value_of y b e true i z at =
             let same : Some (local b) ≡ Some (local a) = sym e ∙ (ap (entity r.declaration.tree) (same_name y x.name i) ∙ is) in
-            let type : written u r b ≡ t = ap (λ o. type_by o) same ∙ type in
+            let type : written u r b ≡ t = ap (type_by t) same ∙ type in
             subst (Fits system (heap_of s) (closed r (written u r b)))
             (some_is (ap (λ b. if b then Some v else s.local y) (sym i) ∙ at))
             (subst (λ t. Fits system (heap_of s) (closed r t) v) (sym type) fits)
-          where
-            type_by : Option frames.Entity → TyT
-            type_by None = t
-            type_by (Some (argument b)) = t
-            type_by (Some (local b)) = written u r b
         value_of y b e false i z at = g.locals y b e z (ap (λ b. if b then Some v else s.local y) (sym i) ∙ at)
 
         sure_of : (y : List ℕ) (b : TypeT) → entity r.declaration.tree y ≡ Some (local b) → (i : Bool) → bytes_eq y x.name ≡ i
@@ -479,12 +483,12 @@ module _ (u : List ClassT) (laws : UniverseLaws u) (r : Running u) where
 
     pub set_ok : ((e : Entity) → entity_of S x.name ≡ Some e → signature u (line_of u class_of_text) x.name ≡ None)
         → IsTarget S k x.name t → Safe (set_target c x.name v s) SetEnds
+    unfolding meaning
     set_ok none target = by (bytes_eq x.name result_name) refl target
       where
         by : (i : Bool) → bytes_eq x.name result_name ≡ i → IsTargetBy i S k x.name t
             → Safe ((if i then set_result r.declaration.tree.result_type v
             else (λ s. unless_bound (s.test x.name) (set_entity c (entity r.declaration.tree x.name) x.name v) s)) s) SetEnds
-        unfolding meaning
         by true i target = result_ok r.declaration.tree.result_type refl target (same_name x.name result_name i)
         by false i target =
             variable_ok none (turned i) (usable_test k x.name) (entity_of S x.name)

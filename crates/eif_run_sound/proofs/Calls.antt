@@ -42,34 +42,8 @@ use Rattle.eif_run_sound.specs.UniverseLaws.{ResultFits, IsServed, IsReadAs, IsA
 use Rattle.eif_run_sound.proofs.States.{or_cases, or_left, or_right, ready_stays}
 use Rattle.eif_run_sound.proofs.Flows.{and_left, and_right, and_both, flow_keeps, all_met}
 use Rattle.eif_run_sound.proofs.Known.{true_or_false}
-use Rattle.eif_run_sound.proofs.Types.{all_fit_length, answers_fit, answers_seen}
-
--- ---- arguments in number
-
-map_length : {A B : Type 0} (f : A → B) (xs : List A) → length (map f xs) ≡ length xs
-map_length f [] = refl
-map_length f (x ∷ xs) = let e = map_length f xs in omega arith
-
-append_length : {A B : Type 0} (xs : List A) (ys : List B) (rest : List A) (more : List B)
-    → length xs ≡ length ys → length rest ≡ length more → length (xs ++ rest) ≡ length (ys ++ more)
-append_length [] [] rest more e f = f
-append_length [] (y ∷ ys) rest more e f = absurd (omega arith)
-append_length (x ∷ xs) [] rest more e f = absurd (omega arith)
-append_length (x ∷ xs) (y ∷ ys) rest more e f =
-    let g : length xs ≡ length ys = omega arith in
-    let h = append_length xs ys rest more g f in omega arith
-
-groups_length : {A : Type 0} (f : GroupT → A) (gs : List GroupT)
-    → length (flat_map (λ g. map (λ n. f g) g.names) gs) ≡ length (flat_map (λ g. g.names) gs)
-groups_length f [] = refl
-groups_length f (g ∷ gs) =
-    append_length (map (λ n. f g) g.names) g.names _ _ (map_length (λ n. f g) g.names) (groups_length f gs)
-
-routine_is : (k : KindT) → is_attribute k ≡ false → is_deferred_kind k ≡ false → is_routine k ≡ true
-routine_is attribute e f = cc
-routine_is (constant x) e f = refl
-routine_is deferred_body e f = cc
-routine_is (routine locals body) e f = refl
+use Rattle.eif_run_sound.proofs.Declarations.{declaration_ok}
+use Rattle.eif_run_sound.proofs.Types.{answers_fit}
 
 -- ---- objects
 
@@ -116,47 +90,16 @@ module _ (u : List ClassT) (laws : UniverseLaws u) (r : Running u) where
 
   module _ (s : State) (heap : IsHeap system (heap_of s)) (v : Value) (o : Object)
       (there : object_of (heap_of s) v ≡ Some o) (ty : ClassType) (is : o.made ≡ ty) where
-    taken : (y : Declaration) (args : List TyT) (result : Option TyT) (vs : List Value) (w : IsServed u ty y args result)
-        → AllFit system (heap_of s) args vs → takes y.tree vs ≡ true
-    taken y args result vs w fit =
-        let ts = (declared_signature u w.routine.text y.tree).arguments in
-        let e : length (argument_names y.tree) ≡ length vs =
-        sym (groups_length (λ g. resolved u w.routine.text g.type_tree) y.tree.arguments)
-        ∙ (sym (map_length (put_in w.actuals) ts)
-        ∙ all_fit_length system (heap_of s) (map (put_in w.actuals) ts) vs
-        (subst (λ args. AllFit system (heap_of s) args vs) (sym w.arguments_are) fit)) in
-        and_both (is_routine y.tree.kind) _ (routine_is y.tree.kind w.routine.no_field w.routine.effective)
-        (eq-eqb (length (argument_names y.tree)) (length vs) e)
-
     pub enter_ok : (y : Declaration) (args : List TyT) (result : Option TyT) (vs : List Value) (f : FieldSet)
         → IsServed u ty y args result → AllFit system (heap_of s) args vs → Ready u f o
         → Met u ty.class_number (flow_on u ty.class_number y) f
         → Safe (enter c v y vs s) (λ t a. Called result s t a × Sets v (after_body y f) t)
     enter_ok y args result vs f w fit ready met =
-        let over = subst (λ t. Over system t y.class_number w.actuals) (sym is) w.over in
-        let entering : Enters u (heap_of s) v y w.actuals vs f =
-        record {
-          routine = w.routine;
-          heap = heap;
-          object = o;
-          there = there;
-          over = over;
-          ready = ready;
-          met = subst (λ (t : ClassType). Met u t.class_number (flow_on u t.class_number y) f) (sym is) met;
-          fit = subst (λ args. AllFit system (heap_of s) args vs) (sym w.arguments_are) fit;
-        } in
-        let found : option_and_then (body_on system y) (object_of (heap_of s) v) ≡ Some (body_of y w.actuals) =
-        ap (option_and_then (body_on system y)) there
-        ∙ (ap (option_map (λ xs. body_of y (put_in_all o.made.actuals xs))) over.gives
-        ∙ ap (λ xs. Some (body_of y xs)) over.is) in
         safe_after (run_declaration system r.again v y vs s.store) (λ t a. done (record s { store = t }) a)
         (Leaves u (heap_of s) v y w.actuals f w.routine.text) _
-        (subst (λ b. Safe (run_body r.again v vs b s.store) (Leaves u (heap_of s) v y w.actuals f w.routine.text)) (sym found)
-        (subst (λ b. Safe (if b then r.again v (body_of y w.actuals) vs s.store else wrong no_feature s.store.printed)
-        (Leaves u (heap_of s) v y w.actuals f w.routine.text)) (sym (taken y args result vs w fit))
-        (r.runs v y w.actuals vs f s.store entering)))
+        (declaration_ok u r.again r.runs s.store heap v o there ty is y args result vs f w fit ready met)
         (λ t a l. ((record { rest = refl; grown = l.grown; heap = l.heap },
-        answers_fit u laws r t.heap _ result a w.result_fits l.answers), l.ready))
+        answers_fit u laws t.heap _ result a w.result_fits l.answers), l.ready))
 
     -- ---- fields
 
@@ -172,7 +115,7 @@ module _ (u : List ClassT) (laws : UniverseLaws u) (r : Running u) where
         some_is (sym h.1 ∙ (ap (λ (t : ClassType). field_type system t.class_number n) is ∙ w.field)) in
         subst (λ o. Safe (some_or unset o (λ v. give (Some v)) s) (Called result s)) (sym x.1)
         (extends_same system s heap,
-        answers_fit u laws r (heap_of s) (Some (put_in ty.actuals w.type)) result (Some x.0) w.result_fits
+        answers_fit u laws (heap_of s) (Some (put_in ty.actuals w.type)) result (Some x.0) w.result_fits
         (subst (λ (t : ClassType). Fits system (heap_of s) (put_in t.actuals w.type) x.0) is
         (subst (λ t. Fits system (heap_of s) (put_in o.made.actuals t) x.0) t h.2)))
 

@@ -63,7 +63,7 @@ start_set : (t : TyT) (b : Bool) → is_self_initialising t ≡ b → (b || fals
 start_set t true e h = tt
 start_set t false e h = cc
 
-new_ready : (system : System) (t : ClassType) (n : List ℕ) (a : TyT) → field_type system t.class_number n ≡ Some a
+pub new_ready : (system : System) (t : ClassType) (n : List ℕ) (a : TyT) → field_type system t.class_number n ≡ Some a
     → (is_self_initialising a || false) ≡ true → IsSet ((new_object system t).field n)
 new_ready system t n a e h =
     subst (λ o. IsSet (option_and_then start o)) (sym e) (start_set a (is_self_initialising a) refl h)

@@ -29,6 +29,7 @@ use Rattle.eif_body_rules.specs.Settings.{Setting, fits, Entity, entity_of, is_t
 use Rattle.eif_body_rules.specs.TestRules.{local_names, test_names, test_names_in}
 use Rattle.eif_flow_rules.specs.FieldSets.{FieldSet}
 use Rattle.eif_flow_rules.specs.FlowTrees.{Flow, idle, calls}
+use Rattle.eif_flow_rules.specs.Summaries.{summary}
 use Rattle.eif_flow_rules.specs.TestLocals.{usable_by_left}
 use Rattle.eif_flow_rules.specs.VersionFlows.{call_of, precursor_origin}
 use Rattle.eif_meaning.specs.Values as values
@@ -59,9 +60,9 @@ use Rattle.eif_run_laws.proofs.Growing.{fits_grown, all_grown}
 use Rattle.eif_run_laws.proofs.Fitting.{boolean_fits}
 use Rattle.eif_run_laws.proofs.Keeps.{safe_more}
 use Rattle.eif_run_laws.proofs.Operands.{boolean_is, literal_given, one_ok, two_ok}
-use Rattle.eif_run_sound.specs.Bodies.{IsRoutine, Running, frame_of, setting_of, meanings_of, written, closed}
+use Rattle.eif_run_sound.specs.Bodies.{IsRoutine, IsWrittenRoutine, Running, frame_of, setting_of, meanings_of, written, closed}
 use Rattle.eif_run_sound.specs.ExpressionRuns.{IsEntity, Told, flow_of, flow_of_all, MetOn, behind_on, HidesNone, IsTypeOfText, Evaluated, AllEvaluated, types_of, ExpressionsKeep}
-use Rattle.eif_run_sound.specs.Fields.{Ready}
+use Rattle.eif_run_sound.specs.Fields.{due}
 use Rattle.eif_run_sound.specs.Invariant.{Shows, Gives, held_in, Held, Good, Later}
 use Rattle.eif_run_sound.specs.UniverseLaws.{all_closed, maybe_closed, UniverseLaws}
 use Rattle.eif_run_sound.specs.WrittenTexts.{IsUnary, IsBinary, IsWritten, AreWritten}
@@ -89,7 +90,7 @@ same_boolean false false e = refl
 same_boolean true false e = cc
 same_boolean false true e = cc
 
-module _ (u : List ClassT) (laws : UniverseLaws u) (r : Running u) where
+module _ (u : List ClassT) (laws : UniverseLaws u) (r : Running u) (lawful : IsWrittenRoutine u r) where
   abbrev system : System
   system = system_over u
 
@@ -101,6 +102,11 @@ module _ (u : List ClassT) (laws : UniverseLaws u) (r : Running u) where
 
   abbrev class_of_text : ℕ
   class_of_text = r.declaration.class_number
+
+  -- what is set before a text is set behind it
+  pub stays_set : (t : Flow) (f : FieldSet) (m : List ℕ) → f m ≡ true → behind_on u r t f m ≡ true
+  stays_set t f m h =
+      flow_keeps (due u r.type.class_number) (summary u (line_of u r.type.class_number)) t f m h
 
   -- ---- what is given
 
@@ -158,12 +164,11 @@ module _ (u : List ClassT) (laws : UniverseLaws u) (r : Running u) where
       → reads.LocalIsSet set x (meaning S k x)
   name_set k n set x no_exs given valid is none = is
   name_set k n set x (and_ex e es) given valid is none =
-      let m = more_given S k n e es given valid in
-      let q : record { place = _; type = m.type } ∷ m.rest ≡ [] = sym m.is ∙ none in cc
+      let i = (more_given S k n e es given valid).is in cc
 
   -- the entities of the body are no features
   pub entity_none : (x : List ℕ) (e : Entity) → entity_of S x ≡ Some e → signature u (line_of u class_of_text) x ≡ None
-  entity_none x e is = laws.features.unknown class_of_text x (r.entities.no_feature x e is)
+  entity_none x e is = laws.features.unknown class_of_text x (lawful.entities.no_feature x e is)
 
   told_name : (k : List Fact) (n : List (List ℕ)) (p : Place) (x : List ℕ) (args : Exs) (o : Option Seen) (s : State)
       → ((w : Seen) → o ≡ Some w → IsEntity (entity r.declaration.tree x) → held_in u r s x ≡ Some w.value)
@@ -179,7 +184,7 @@ module _ (u : List ClassT) (laws : UniverseLaws u) (r : Running u) where
   -- ---- the version of a parent
 
   pub routine : IsRoutine u r.declaration
-  routine = record { text = r.text; at = r.at; declares = r.declares; no_field = r.no_field; effective = r.effective }
+  routine = record { text = r.text; at = r.at; declares = r.declares; no_field = lawful.no_field; effective = lawful.effective }
 
   as_it_is : (o : Option TyT) → option_map (λ t. t) o ≡ o
   as_it_is None = refl
@@ -199,7 +204,7 @@ module _ (u : List ClassT) (laws : UniverseLaws u) (r : Running u) where
       let entries = λ (o : Option (List ℕ)).
       versions.precursor (λ (e : SignedEntry). e.entry) name
       (option_map_or (signed_entries_in u (line_of u class_of_text)) o []) in
-      let found = ap entries (sym r.named) ∙ w.found in
+      let found = ap entries (sym lawful.named) ∙ w.found in
       let a = laws.features.version r.declaration routine r.type r.made r.actuals r.over name e found in
       let flow : (meanings_of u r).version p name ≡ calls p a.version =
       ap (call_of p) a.followed
@@ -332,7 +337,7 @@ module _ (u : List ClassT) (laws : UniverseLaws u) (r : Running u) where
     two_kinds (inr h) = inr (fit_both character_type refl h)
 
     -- two BOOLEANs
-    abbrev truths : AreBoth S types.boolean a b
+    truths : AreBoth S types.boolean a b
         → (Q : Value → Value → Type 0) → ((i j : Bool) → x.value ≡ values.boolean i → y.value ≡ values.boolean j
         → Q (values.boolean i) (values.boolean j)) → Q x.value y.value
     truths h Q w =
@@ -458,11 +463,11 @@ module _ (u : List ClassT) (laws : UniverseLaws u) (r : Running u) where
     fewer_fields : (t : FieldSet) (w : State) (z : Good u r k set t w) → ((m : List ℕ) → f m ≡ true → t m ≡ true)
         → Good u r k set f w
     fewer_fields t w z h =
-        good_ready u r k set t f w z (λ m ft e d. z.ready m ft e (or_more (is_self_initialising ft) d (h m)))
+        good_ready u r k set t f w z (λ m ft e d. z.ready m ft e (or_more (is_self_initialising ft) _ _ d (h m)))
       where
-        or_more : (a : Bool) {c d : Bool} → (a || c) ≡ true → (c ≡ true → d ≡ true) → (a || d) ≡ true
-        or_more true e h = refl
-        or_more false e h = h e
+        or_more : (a c d : Bool) → (a || c) ≡ true → (c ≡ true → d ≡ true) → (a || d) ≡ true
+        or_more true c d e h = refl
+        or_more false c d e h = h e
 
     -- behind it nothing more is known to be set, and the facts of the left operand still hold
     right_done : (i : Bool) (w : State) (y : Seen)
@@ -710,7 +715,7 @@ module _ (u : List ClassT) (laws : UniverseLaws u) (r : Running u) where
           gives = subst (λ t. Gives u r (heap_of x) (Some t) o) (sym w.is) h.gives;
           told = record {
             held = λ m b i j. h.held m b i j;
-            read = λ m i j q. cc;
+            read = λ m x i j q. cc;
             void = λ m i j. cc;
           };
         })
@@ -739,12 +744,12 @@ module _ (u : List ClassT) (laws : UniverseLaws u) (r : Running u) where
         chain (evaluate c l >>= need) (λ z. operate_with (Some true) op.AndThen z.value (evaluate c m >>= need)) s _ _
         (valued k n set f1 l w.first s (evaluate_ok l k n set hidden f w.first w.left_valid sets.0 written.1 hides met.0 s g))
         (λ v z ev. and_then_ok k n set f1 f2 l m w.first w.second p q s v z w.left_valid ev
-        (λ a i. flow_keeps _ _ (flow_of u r (usable_by_left op.AndThen l ++ hidden) m) f1 a i) t w.types.0 w.types.1
+        (λ a i. stays_set (flow_of u r (usable_by_left op.AndThen l ++ hidden) m) f1 a i) t w.types.0 w.types.1
         (λ i. (w.right_valid, valued (k ++ facts S k n true l) (n ++ test_names l) set f2 m w.second v
         (evaluate_ok m (k ++ facts S k n true l) (n ++ test_names l) set (usable_by_left op.AndThen l ++ hidden) f1 w.second
         w.right_valid sets.1 written.2 more met.1 v
         (known_right k n set f1 f2 l m w.first w.second p q s v z w.left_valid ev
-        (λ a i. flow_keeps _ _ (flow_of u r (usable_by_left op.AndThen l ++ hidden) m) f1 a i) true i)))))
+        (λ a i. stays_set (flow_of u r (usable_by_left op.AndThen l ++ hidden) m) f1 a i) true i)))))
     evaluate_ok (binary p op.OrElse q l m) k n set hidden f t valid sets written hides met s g =
         let w = valid_binary S k n p op.OrElse q l m t valid in
         let f1 = behind_on u r (flow_of u r hidden l) f in
@@ -753,12 +758,12 @@ module _ (u : List ClassT) (laws : UniverseLaws u) (r : Running u) where
         chain (evaluate c l >>= need) (λ z. operate_with (Some false) op.OrElse z.value (evaluate c m >>= need)) s _ _
         (valued k n set f1 l w.first s (evaluate_ok l k n set hidden f w.first w.left_valid sets.0 written.1 hides met.0 s g))
         (λ v z ev. or_else_ok k n set f1 f2 l m w.first w.second p q s v z w.left_valid ev
-        (λ a i. flow_keeps _ _ (flow_of u r (usable_by_left op.OrElse l ++ hidden) m) f1 a i) t w.types.0 w.types.1
+        (λ a i. stays_set (flow_of u r (usable_by_left op.OrElse l ++ hidden) m) f1 a i) t w.types.0 w.types.1
         (λ i. (w.right_valid, valued (k ++ facts S k n false l) (n ++ test_names l) set f2 m w.second v
         (evaluate_ok m (k ++ facts S k n false l) (n ++ test_names l) set (usable_by_left op.OrElse l ++ hidden) f1 w.second
         w.right_valid sets.1 written.2 more met.1 v
         (known_right k n set f1 f2 l m w.first w.second p q s v z w.left_valid ev
-        (λ a i. flow_keeps _ _ (flow_of u r (usable_by_left op.OrElse l ++ hidden) m) f1 a i) false i)))))
+        (λ a i. stays_set (flow_of u r (usable_by_left op.OrElse l ++ hidden) m) f1 a i) false i)))))
     evaluate_ok (binary p op.Implies q l m) k n set hidden f t valid sets written hides met s g =
         let w = valid_binary S k n p op.Implies q l m t valid in
         let f1 = behind_on u r (flow_of u r hidden l) f in
@@ -767,12 +772,12 @@ module _ (u : List ClassT) (laws : UniverseLaws u) (r : Running u) where
         chain (evaluate c l >>= need) (λ z. operate_with (Some true) op.Implies z.value (evaluate c m >>= need)) s _ _
         (valued k n set f1 l w.first s (evaluate_ok l k n set hidden f w.first w.left_valid sets.0 written.1 hides met.0 s g))
         (λ v z ev. implies_ok k n set f1 f2 l m w.first w.second p q s v z w.left_valid ev
-        (λ a i. flow_keeps _ _ (flow_of u r (usable_by_left op.Implies l ++ hidden) m) f1 a i) t w.types.0 w.types.1
+        (λ a i. stays_set (flow_of u r (usable_by_left op.Implies l ++ hidden) m) f1 a i) t w.types.0 w.types.1
         (λ i. (w.right_valid, valued (k ++ facts S k n true l) (n ++ test_names l) set f2 m w.second v
         (evaluate_ok m (k ++ facts S k n true l) (n ++ test_names l) set (usable_by_left op.Implies l ++ hidden) f1 w.second
         w.right_valid sets.1 written.2 more met.1 v
         (known_right k n set f1 f2 l m w.first w.second p q s v z w.left_valid ev
-        (λ a i. flow_keeps _ _ (flow_of u r (usable_by_left op.Implies l ++ hidden) m) f1 a i) true i)))))
+        (λ a i. stays_set (flow_of u r (usable_by_left op.Implies l ++ hidden) m) f1 a i) true i)))))
     evaluate_ok (binary p op.Not q l m) k n set hidden f t valid sets written hides met s g = absurd written.0
     evaluate_ok (binary p op.Plus q l m) k n set hidden f t valid sets written hides met s g =
         let w = valid_binary S k n p op.Plus q l m t valid in

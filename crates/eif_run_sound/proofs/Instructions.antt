@@ -55,49 +55,57 @@ use Rattle.eif_run_laws.proofs.Lists.{some_is}
 use Rattle.eif_run_laws.proofs.Growing.{grow_same, grow_on, fits_grown}
 use Rattle.eif_run_laws.proofs.Fitting.{as_object, from_object, object_fits}
 use Rattle.eif_run_laws.proofs.Keeps.{safe_more}
-use Rattle.eif_run_sound.specs.Bodies.{Running, frame_of, setting_of, meanings_of, written, closed}
+use Rattle.eif_run_sound.specs.Bodies.{IsWrittenRoutine, Running, frame_of, setting_of, meanings_of, written, closed}
 use Rattle.eif_run_sound.specs.ExpressionRuns.{flow_of, flow_of_all, MetOn, behind_on, HidesNone, IsTypeOfText, Evaluated, AllEvaluated, types_of}
 use Rattle.eif_run_sound.specs.InstructionRuns.{Done, CompoundsKeep}
 use Rattle.eif_run_sound.specs.Invariant.{Gives, DenotesNothing, Good}
 use Rattle.eif_run_sound.specs.UniverseLaws.{IsTypeIn, UniverseLaws}
 use Rattle.eif_run_sound.specs.WrittenTexts.{OfType, IsWritten, AreWritten, InstructionIsWritten, CompoundIsWritten, BranchesAreWritten, OtherwiseIsWritten}
 use Rattle.eif_run_sound.proofs.States.{or_cases, or_left, or_right, chain, later_same, later_on, shows_grown, good_extends, good_known, good_ready}
-use Rattle.eif_run_sound.proofs.Flows.{and_left, and_right, and_both, flow_keeps}
+use Rattle.eif_run_sound.proofs.Flows.{and_left, and_right}
 use Rattle.eif_run_sound.proofs.Known.{true_or_false, held_both, held_fewer, told_apart}
-use Rattle.eif_run_sound.proofs.Types.{suit, fits_in}
+use Rattle.eif_run_sound.proofs.Types.{suit, has_base, fits_in}
 use Rattle.eif_run_sound.proofs.Entities.{entity_cases}
 use Rattle.eif_run_sound.proofs.Names.{attached_twice, written_is, no_entity_of, name_ok}
 use Rattle.eif_run_sound.proofs.Targets.{not_void, target_ok}
 use Rattle.eif_run_sound.proofs.Creations.{created_ok}
 use Rattle.eif_run_sound.proofs.Operands.{hides_more, true_is_test, false_is_test}
-use Rattle.eif_run_sound.proofs.Expressions.{valued, truth_of, name_set, entity_none, routine, version_ok, evaluate_ok, arguments_ok}
+use Rattle.eif_run_sound.proofs.Expressions.{stays_set, valued, truth_of, name_set, entity_none, routine, version_ok, evaluate_ok, arguments_ok}
 use Rattle.eif_run_sound.proofs.Assigned.{set_ok}
 
 -- ---- names that are surely set
 
+kept_or : (ys xs : List (List ℕ)) (z x : List ℕ) (b : Bool) → is_among ys z ≡ b → (bytes_eq x z || is_among xs x) ≡ true
+    → is_among ys x ≡ true → (is_among xs x ≡ true → is_among (common_names xs ys) x ≡ true)
+    → is_among (if b then z ∷ common_names xs ys else common_names xs ys) x ≡ true
+kept_or ys xs z x true e h i rest =
+    or_cases (bytes_eq x z) (is_among xs x) h (λ q. or_left (bytes_eq x z) (is_among (common_names xs ys) x) q)
+    (λ q. or_right (bytes_eq x z) (is_among (common_names xs ys) x) (rest q))
+kept_or ys xs z x false e h i rest =
+    or_cases (bytes_eq x z) (is_among xs x) h
+    (λ q. let n : true ≡ false = sym i ∙ (ap (is_among ys) ((bytes_eq-Decides x z).0 q) ∙ e) in cc) rest
+
 among_kept : (ys xs : List (List ℕ)) (x : List ℕ) → is_among xs x ≡ true → is_among ys x ≡ true
     → is_among (common_names xs ys) x ≡ true
 among_kept ys [] x h i = h
-among_kept ys (z ∷ xs) x h i = by (is_among ys z) refl
-  where
-    by : (b : Bool) → is_among ys z ≡ b → is_among (if b then z ∷ common_names xs ys else common_names xs ys) x ≡ true
-    by true e = or_cases (bytes_eq x z) (is_among xs x) h (λ q. or_left (bytes_eq x z) _ q)
-        (λ q. or_right (bytes_eq x z) _ (among_kept ys xs x q i))
-    by false e = or_cases (bytes_eq x z) (is_among xs x) h
-        (λ q. let n : true ≡ false = sym i ∙ (ap (is_among ys) ((bytes_eq-Decides x z).0 q) ∙ e) in cc)
-        (λ q. among_kept ys xs x q i)
+among_kept ys (z ∷ xs) x h i = kept_or ys xs z x (is_among ys z) refl h i (λ q. among_kept ys xs x q i)
+
+abbrev InBoth : List (List ℕ) → List (List ℕ) → List ℕ → Type 0
+InBoth ys xs x = (is_among xs x ≡ true) × (is_among ys x ≡ true)
+
+both_or : (ys xs : List (List ℕ)) (z x : List ℕ) (b : Bool) → is_among ys z ≡ b
+    → is_among (if b then z ∷ common_names xs ys else common_names xs ys) x ≡ true
+    → (is_among (common_names xs ys) x ≡ true → InBoth ys xs x) → InBoth ys (z ∷ xs) x
+both_or ys xs z x true e h rest =
+    or_cases (bytes_eq x z) (is_among (common_names xs ys) x) h
+    (λ q. (or_left (bytes_eq x z) (is_among xs x) q, ap (is_among ys) ((bytes_eq-Decides x z).0 q) ∙ e))
+    (λ q. let p = rest q in (or_right (bytes_eq x z) (is_among xs x) p.0, p.1))
+both_or ys xs z x false e h rest = let p = rest h in (or_right (bytes_eq x z) (is_among xs x) p.0, p.1)
 
 among_both : (ys xs : List (List ℕ)) (x : List ℕ) → is_among (common_names xs ys) x ≡ true
     → (is_among xs x ≡ true) × (is_among ys x ≡ true)
 among_both ys [] x h = cc
-among_both ys (z ∷ xs) x h = by (is_among ys z) refl h
-  where
-    by : (b : Bool) → is_among ys z ≡ b → is_among (if b then z ∷ common_names xs ys else common_names xs ys) x ≡ true
-        → ((bytes_eq x z || is_among xs x) ≡ true) × (is_among ys x ≡ true)
-    by true e h = or_cases (bytes_eq x z) _ h
-        (λ q. (or_left (bytes_eq x z) _ q, ap (is_among ys) ((bytes_eq-Decides x z).0 q) ∙ e))
-        (λ q. let p = among_both ys xs x q in (or_right (bytes_eq x z) _ p.0, p.1))
-    by false e h = let p = among_both ys xs x h in (or_right (bytes_eq x z) _ p.0, p.1)
+among_both ys (z ∷ xs) x h = both_or ys xs z x (is_among ys z) refl h (among_both ys xs x)
 
 mutual
   set_stays : (i : Ins) (set : List (List ℕ)) (x : List ℕ) → is_among set x ≡ true → is_among (set_after set i) x ≡ true
@@ -124,7 +132,7 @@ mutual
   otherwise_stays no_else set x h = h
   otherwise_stays (else_part is) set x h = all_set_stays is set x h
 
-module _ (u : List ClassT) (laws : UniverseLaws u) (r : Running u) where
+module _ (u : List ClassT) (laws : UniverseLaws u) (r : Running u) (lawful : IsWrittenRoutine u r) where
   abbrev system : System
   system = system_over u
 
@@ -188,10 +196,10 @@ module _ (u : List ClassT) (laws : UniverseLaws u) (r : Running u) where
   condition_ok k set hidden f e valid written hides met s g m Q h =
       let f1 = behind_on u r (flow_of u r hidden e) f in
       chain (value_of c e) (λ w. condition w.value m) s _ Q
-      (valued u laws r k [] set f1 e valid.type s
-      (evaluate_ok u laws r e k [] set hidden f valid.type valid.valid valid.reads written hides met s g))
+      (valued u laws r lawful k [] set f1 e valid.type s
+      (evaluate_ok u laws r lawful e k [] set hidden f valid.type valid.valid valid.reads written hides met s g))
       (λ v w ev.
-      let b = truth_of u laws r (heap_of v) valid.type w ev.good.heap ev.gives valid.truth in
+      let b = truth_of u laws r lawful (heap_of v) valid.type w ev.good.heap ev.gives valid.truth in
       subst (λ z. Safe (condition z m v) Q) (sym b.1)
       (h b.0 v ev.later.grown
       (good_known u r k (known_where S k b.0 e) set f1 v ev.good
@@ -211,10 +219,10 @@ module _ (u : List ClassT) (laws : UniverseLaws u) (r : Running u) where
       let w = valid.0 in
       let f1 = behind_on u r (flow_of_all u r hidden args) f in
       chain (evaluate_all c args) (call_name c x) s _ _
-      (arguments_ok u laws r args k [] set hidden f w.given w.args_valid valid.1 written.1 hides met.0 s g)
+      (arguments_ok u laws r lawful args k [] set hidden f w.given w.args_valid valid.1 written.1 hides met.0 s g)
       (λ v vs a. safe_more (call_name c x vs v) _ _
       (λ y o h. (grow_on (heap_of s) (heap_of v) (heap_of y) a.later.grown h.later.grown, h.good))
-      (name_ok u laws r k set hidden f1 p x w.given None vs v a.good hides a.fit (entity_none u laws r) w.gives
+      (name_ok u laws r k set hidden f1 p x w.given None vs v a.good hides a.fit (entity_none u laws r lawful) w.gives
       (λ e. no_read w.gives e) met.1))
     where
       no_read : valid_calls.Gives S k x valid.0.given None (meaning S k x) → valid.0.given ≡ []
@@ -231,19 +239,19 @@ module _ (u : List ClassT) (laws : UniverseLaws u) (r : Running u) where
       let w = valid.0 in
       let f1 = behind_on u r (flow_of_all u r hidden args) f in
       chain (evaluate_all c args) (call_version c (version c (written_name parent))) s _ _
-      (arguments_ok u laws r args k [] set hidden f w.given w.args_valid valid.1 written hides met.0 s g)
+      (arguments_ok u laws r lawful args k [] set hidden f w.given w.args_valid valid.1 written hides met.0 s g)
       (λ v vs a. safe_more (call_version c (version c (written_name parent)) vs v) _ _
       (λ y o h. (grow_on (heap_of s) (heap_of v) (heap_of y) a.later.grown h.0.grown, h.1))
-      (version_ok u laws r k [] set f1 p parent args None w vs v a.good a.fit met.1))
+      (version_ok u laws r lawful k [] set f1 p parent args None w vs v a.good a.fit met.1))
   statement_ok (qualified p e x args) k set hidden f valid written hides met s g =
       let w = valid.0 in
       let f1 = behind_on u r (flow_of u r hidden e) f in
       let f2 = behind_on u r (flow_of_all u r hidden args) f1 in
       chain (evaluate c e >>= need) (λ z. evaluate_all c args >>= call_on c z x.name) s _ _
-      (valued u laws r k [] set f1 e w.target s
-      (evaluate_ok u laws r e k [] set hidden f w.target w.target_valid valid.1.0 written.0 hides met.0 s g))
+      (valued u laws r lawful k [] set f1 e w.target s
+      (evaluate_ok u laws r lawful e k [] set hidden f w.target w.target_valid valid.1.0 written.0 hides met.0 s g))
       (λ v z ev. chain (evaluate_all c args) (call_on c z x.name) v _ _
-      (arguments_ok u laws r args k (test_names e) set hidden f1 w.given w.args_valid valid.1.1 written.1 hides met.1 v ev.good)
+      (arguments_ok u laws r lawful args k (test_names e) set hidden f1 w.given w.args_valid valid.1.1 written.1 hides met.1 v ev.good)
       (λ y vs a. safe_more (call_on c z x.name vs y) _ _
       (λ l o h. (grow_on (heap_of s) (heap_of v) (heap_of l) ev.later.grown (grow_on (heap_of v) (heap_of y) (heap_of l) a.later.grown h.0.grown),
       good_extends u r k set f2 y l a.good h.0))
@@ -251,7 +259,7 @@ module _ (u : List ClassT) (laws : UniverseLaws u) (r : Running u) where
       w.result_is (shows_grown u r (heap_of v) (heap_of y) w.target z a.later.grown ev.gives) a.fit)))
   statement_ok e k set hidden f valid written hides met s g =
       safe_more (evaluate c e s) _ _ (λ v o ev. (ev.later.grown, ev.good))
-      (evaluate_ok u laws r e k [] set hidden f valid.type valid.valid valid.reads written hides met s g)
+      (evaluate_ok u laws r lawful e k [] set hidden f valid.type valid.valid valid.reads written hides met s g)
 
   -- ---- creations
 
@@ -269,8 +277,8 @@ module _ (u : List ClassT) (laws : UniverseLaws u) (r : Running u) where
       let w = more_whole_given S k e es given valid in
       let f1 = behind_on u r (flow_of u r hidden e) f in
       chain (evaluate c e >>= need) (λ z. evaluate_all c es >>= (λ vs. give (z.value ∷ vs))) s _ _
-      (valued u laws r k [] set f1 e w.type s
-      (evaluate_ok u laws r e k [] set hidden f w.type w.first_valid sets.0 written.0 hides met.0 s g))
+      (valued u laws r lawful k [] set f1 e w.type s
+      (evaluate_ok u laws r lawful e k [] set hidden f w.type w.first_valid sets.0 written.0 hides met.0 s g))
       (λ v z ev. chain (evaluate_all c es) (λ vs. give (z.value ∷ vs)) v _ _
       (each_ok es k set hidden f1 w.rest w.rest_valid sets.1 written.1 hides met.1 v ev.good)
       (λ y vs a. record {
@@ -291,7 +299,7 @@ module _ (u : List ClassT) (laws : UniverseLaws u) (r : Running u) where
     result_typed (Some a) is e =
         (ap Some (written_is u laws r a) ∙ e,
         subst (IsTypeIn u class_of_text) (some_is e)
-        (laws.bodies.locals_typed r.declaration (routine u laws r) a (inr is)))
+        (laws.bodies.locals_typed r.declaration (routine u laws r lawful) a (inr is)))
 
     not_bound : (DenotesNothing u r x → ⊥) → s.test x ≡ None
     not_bound n = by (s.test x) refl
@@ -318,7 +326,7 @@ module _ (u : List ClassT) (laws : UniverseLaws u) (r : Running u) where
         (not_bound (λ n. let q : None ≡ Some (local a.0) = sym n.entity_none ∙ a.1 in cc))
         ∙ (ap (λ o. entity_type c o x) a.1 ∙ ap Some (written_is u laws r a.0 ∙ type)),
         subst (IsTypeIn u class_of_text) type
-        (laws.bodies.locals_typed r.declaration (routine u laws r) a.0 (inl (x, a.1)))))
+        (laws.bodies.locals_typed r.declaration (routine u laws r lawful) a.0 (inl (x, a.1)))))
         (λ a. let q : None ≡ Some e = sym a.1 ∙ j in cc) rest)
         (entity_cases u r.text r.declaration.tree x)
     variable_typed None None (Some sg) j l h =
@@ -330,12 +338,12 @@ module _ (u : List ClassT) (laws : UniverseLaws u) (r : Running u) where
     variable_typed None None None j l h = absurd h
 
     target_typed : IsTarget S k x t → TargetTyped x t s
+    unfolding meaning
     target_typed target = by (bytes_eq x result_name) target
       where
         by : (i : Bool) → IsTargetBy i S k x t
             → ((if i then option_map (written_type c) r.declaration.tree.result_type
             else bound_type (s.test x) (entity_type c (entity r.declaration.tree x) x)) ≡ Some t) × IsTypeIn u class_of_text t
-        unfolding meaning
         by true target = result_typed r.declaration.tree.result_type refl target
         by false target =
             variable_typed (usable_test k x) (entity_of S x) (signature u (line_of u class_of_text) x) refl refl target
@@ -437,70 +445,132 @@ module _ (u : List ClassT) (laws : UniverseLaws u) (r : Running u) where
       (behind_on u r (branches_flow (meanings_of u r) hidden bs (λ ns. otherwise_flow (meanings_of u r) ns o)) f) s)
 
   -- the source of an assignment is attached, where its type is
-  attached_source : (k : List Fact) (h : List Object) (t : TyT) (o : Option TyT) (v : Value) → o ≡ Some t
-      → Fits system h (closed r t) v → has_attached_type S o ≡ true → is_void v ≡ false
-  attached_source k h t o v e fits is =
+  attached_source : (k : List Fact) (h : List Object) (t a : TyT) (o : Option TyT) (v : Value) → o ≡ Some t
+      → fits S t a ≡ true → Fits system h (closed r t) v → has_attached_type S o ≡ true → is_void v ≡ false
+  attached_source k h t a o v e fit held is =
+      let attached = sym (ap (has_attached_type S) e) ∙ is in
       not_void system h (closed r t) v
-      (laws.open_types.attached class_of_text r.actuals (suit u laws r) t
-      (sym (ap (has_attached_type S) e) ∙ is)) fits
+      (laws.open_types.attached class_of_text r.actuals (suit u laws r) t attached
+      (has_base u class_of_text t a fit attached)) held
+
+  -- behind an exit: the loop ends, or what comes next runs
+  exit_ok : (k : List Fact) (set hidden : List (List ℕ)) (f : FieldSet) (exit : Ex) → ValidCondition S k set exit
+      → IsWritten (IsTypeOfText u r) exit → HidesNone u r hidden → MetOn u r (flow_of u r hidden exit) f
+      → (next : Does (Unit {0}))
+      → ((s : State) → Good u r (known_where S k false exit) set f s → Safe (next s) (Done u r k set f s))
+      → (s : State) → Good u r k set f s
+      → Safe ((value_of c exit >>= (λ w. condition w.value (λ b. if b then give tt else next))) s) (Done u r k set f s)
+  exit_ok k set hidden f exit valid written hides met next later s g =
+      condition_ok k set hidden f exit valid written hides met s g (λ b. if b then give tt else next) (Done u r k set f s) go
+    where
+      fewer : (b : Bool) (v : State) → Good u r (known_where S k b exit) set (behind_on u r (flow_of u r hidden exit) f) v
+          → Good u r (known_where S k b exit) set f v
+      fewer b v good =
+          good_less (known_where S k b exit) set f (behind_on u r (flow_of u r hidden exit) f) v
+          (stays_set u laws r lawful (flow_of u r hidden exit) f) good
+
+      go : (b : Bool) (v : State) → Grow (heap_of s) (heap_of v)
+          → Good u r (known_where S k b exit) set (behind_on u r (flow_of u r hidden exit) f) v
+          → Safe ((if b then give tt else next) v) (Done u r k set f s)
+      go true v grown good = record {
+        grown = grown;
+        good = good_fewer k (known_where S k true exit) set f v (fewer_where S k true exit valid.type valid.valid)
+            (fewer true v good);
+      }
+      go false v grown good =
+          safe_more (next v) (Done u r k set f v) (Done u r k set f s) (λ y o d. done_on k set f s v y o grown d)
+          (later v (fewer false v good))
 
   -- so many turns of a loop
   turns_ok : (n : ℕ) (k : List Fact) (set hidden : List (List ℕ)) (f : FieldSet) (exit : Ex) (body : Inss)
       → ValidCondition S k set exit → IsWritten (IsTypeOfText u r) exit → HidesNone u r hidden
       → MetOn u r (flow_of u r hidden exit) f
-      → ((s : State) → Good u r (known_where S k false exit) set f s
-      → Safe (execute_all c body s) (λ v o. Grow (heap_of s) (heap_of v) × Good u r k set f v))
+      → ((s : State) → Good u r (known_where S k false exit) set f s → Safe (execute_all c body s) (Done u r k set f s))
       → (s : State) → Good u r k set f s
       → Safe (run_loop n (value_of c exit) (execute_all c body) s) (Done u r k set f s)
   turns_ok zero k set hidden f exit body valid written hides met turn s g =
-      condition_ok k set hidden f exit valid written hides met s g
-      (λ b. if b then give tt else (λ s. cut_off s.store.printed)) (Done u r k set f s) go
-    where
-      go : (b : Bool) (v : State) → Grow (heap_of s) (heap_of v)
-          → Good u r (known_where S k b exit) set (behind_on u r (flow_of u r hidden exit) f) v
-          → Safe ((if b then give tt else (λ s. cut_off s.store.printed)) v) (Done u r k set f s)
-      go true v grown good = record {
-        grown = grown;
-        good = good_fewer k (known_where S k true exit) set f v
-            (fewer_where S k true exit valid.type valid.valid)
-            (good_less (known_where S k true exit) set f _ v (λ m h. flow_keeps _ _ (flow_of u r hidden exit) f m h) good);
-      }
-      go false v grown good = tt
+      exit_ok k set hidden f exit valid written hides met (λ s. cut_off s.store.printed) (λ v h. tt) s g
   turns_ok (suc n) k set hidden f exit body valid written hides met turn s g =
-      condition_ok k set hidden f exit valid written hides met s g
-      (λ b. if b then give tt else (execute_all c body >>= (λ _. run_loop n (value_of c exit) (execute_all c body))))
-      (Done u r k set f s) go
+      exit_ok k set hidden f exit valid written hides met
+      (execute_all c body >>= (λ _. run_loop n (value_of c exit) (execute_all c body)))
+      (λ v h. chain (execute_all c body) (λ _. run_loop n (value_of c exit) (execute_all c body)) v (Done u r k set f v)
+      (Done u r k set f v) (turn v h)
+      (λ x o d. safe_more (run_loop n (value_of c exit) (execute_all c body) x) (Done u r k set f x) (Done u r k set f v)
+      (λ y p e. done_on k set f v x y p d.grown e)
+      (turns_ok n k set hidden f exit body valid written hides met turn x d.good)))
+      s g
+
+  -- a branch that is taken, or those behind it
+  abbrev OtherwiseKeeps : Otherwise → Type 0
+  OtherwiseKeeps o =
+      (k : List Fact) (set hidden : List (List ℕ)) (f : FieldSet) → ValidOtherwise S k set o
+      → OtherwiseIsWritten (IsTypeOfText u r) o → HidesNone u r hidden
+      → MetOn u r (otherwise_flow (meanings_of u r) hidden o) f → (s : State) → Good u r k set f s
+      → Safe (execute_otherwise c o s)
+      (Done u r (known_after S k (choose no_branches o)) (set_otherwise set o)
+      (behind_on u r (otherwise_flow (meanings_of u r) hidden o) f) s)
+
+  abbrev BranchEnds : Ex → Inss → Branches → Otherwise → List Fact → List (List ℕ) → List (List ℕ) → FieldSet → State → State
+      → Unit {0} → Type 0
+  BranchEnds e is bs o k set hidden f s =
+      Done u r (known_after S k (choose (and_branch e is bs) o))
+      (set_by_branches set (and_branch e is bs) (set_otherwise set o))
+      (behind_on u r (branches_flow (meanings_of u r) hidden (and_branch e is bs) (λ ns. otherwise_flow (meanings_of u r) ns o)) f)
+      s
+
+  branch_by : (e : Ex) (is : Inss) (bs : Branches) (o : Otherwise) → CompoundKeeps is → BranchesKeep bs o
+      → BranchesKeep (and_branch e is bs) o
+  branch_by e is bs o first rest k set hidden f valid other written last hides met s g =
+      condition_ok k set hidden f e valid.0 written.0 hides met.0 s g
+      (λ b. if b then execute_all c is else execute_branches c bs (execute_otherwise c o)) (BranchEnds e is bs o k set hidden f s) go
     where
       go : (b : Bool) (v : State) → Grow (heap_of s) (heap_of v)
-          → Good u r (known_where S k b exit) set (behind_on u r (flow_of u r hidden exit) f) v
-          → Safe ((if b then give tt else (execute_all c body >>= (λ _. run_loop n (value_of c exit) (execute_all c body)))) v)
-          (Done u r k set f s)
-      go true v grown good = record {
-        grown = grown;
-        good = good_fewer k (known_where S k true exit) set f v
-            (fewer_where S k true exit valid.type valid.valid)
-            (good_less (known_where S k true exit) set f _ v (λ m h. flow_keeps _ _ (flow_of u r hidden exit) f m h) good);
-      }
+          → Good u r (known_where S k b e) set (behind_on u r (flow_of u r hidden e) f) v
+          → Safe ((if b then execute_all c is else execute_branches c bs (execute_otherwise c o)) v)
+          (BranchEnds e is bs o k set hidden f s)
+      go true v grown good =
+          safe_more (execute_all c is v) _ _
+          (λ y p d. record {
+            grown = grow_on (heap_of s) (heap_of v) (heap_of y) grown d.grown;
+            good =
+                good_fewer _ (known_after_all S (known_where S k true e) is) _ _ y
+                (fewer_branch S k e is bs o valid.0.type valid.0.valid)
+                (good_set _ _ (set_after_all set is) _ y
+                (λ z q. (among_both (set_by_branches set bs (set_otherwise set o)) (set_after_all set is) z q).0)
+                (good_less _ (set_after_all set is) _ _ y (λ m q. and_left _ _ q) d.good));
+          })
+          (first (known_where S k true e) set (usable_if_true e ++ hidden) (behind_on u r (flow_of u r hidden e) f) valid.1
+          written.1 (hides_more u laws r k [] hidden e valid.0.type (usable_if_true e) valid.0.valid hides (true_is_test e))
+          met.1.0 v good)
       go false v grown good =
-          chain (execute_all c body) (λ _. run_loop n (value_of c exit) (execute_all c body)) v _ (Done u r k set f s)
-          (turn v (good_less (known_where S k false exit) set f _ v (λ m h. flow_keeps _ _ (flow_of u r hidden exit) f m h) good))
-          (λ x o d. safe_more (run_loop n (value_of c exit) (execute_all c body) x) _ _
-          (λ y p e. done_on k set f s x y p (grow_on (heap_of s) (heap_of v) (heap_of x) grown d.0) e)
-          (turns_ok n k set hidden f exit body valid written hides met turn x d.1))
+          safe_more (execute_branches c bs (execute_otherwise c o) v) _ _
+          (λ y p d. record {
+            grown = grow_on (heap_of s) (heap_of v) (heap_of y) grown d.grown;
+            good =
+                good_fewer _ (known_after S (known_where S k false e) (choose bs o)) _ _ y
+                (fewer_later S k e is bs o valid.0.type valid.0.valid)
+                (good_set _ _ (set_by_branches set bs (set_otherwise set o)) _ y
+                (λ z q. (among_both (set_by_branches set bs (set_otherwise set o)) (set_after_all set is) z q).1)
+                (good_less _ (set_by_branches set bs (set_otherwise set o)) _ _ y (λ m q. and_right _ _ q) d.good));
+          })
+          (rest (known_where S k false e) set (usable_if_false e ++ hidden) (behind_on u r (flow_of u r hidden e) f) valid.2 other
+          written.2 last (hides_more u laws r k [] hidden e valid.0.type (usable_if_false e) valid.0.valid hides (false_is_test e))
+          met.1.1 v good)
 
   mutual
     execute_ok : (i : Ins) → InstructionKeeps i
     execute_ok (assign x e) k set hidden f valid written hides met s g =
         let f1 = behind_on u r (flow_of u r hidden e) f in
         chain (value_of c e) (λ v. set_target c x.name v.value) s _ _
-        (valued u laws r k [] set f1 e valid.source s
-        (evaluate_ok u laws r e k [] set hidden f valid.source valid.source_valid valid.reads written hides met.0 s g))
+        (valued u laws r lawful k [] set f1 e valid.source s
+        (evaluate_ok u laws r lawful e k [] set hidden f valid.source valid.source_valid valid.reads written hides met.0 s g))
         (λ v w ev. safe_more (set_target c x.name w.value v) _ _
         (λ y o d. record { grown = grow_on (heap_of s) (heap_of v) (heap_of y) ev.later.grown d.0; good = d.1 })
-        (set_ok u laws r k set hidden f1 x valid.target w.value (has_attached_type S (judge S k [] e).value) v ev.good hides
+        (set_ok u laws r lawful k set hidden f1 x valid.target w.value (has_attached_type S (judge S k [] e).value) v ev.good hides
         (fits_in u laws r (heap_of v) valid.source valid.target w.value valid.fit ev.gives.fits)
-        (attached_source k (heap_of v) valid.source (judge S k [] e).value w.value valid.source_valid.value ev.gives.fits)
-        (entity_none u laws r) valid.is_target))
+        (attached_source k (heap_of v) valid.source valid.target (judge S k [] e).value w.value valid.source_valid.value valid.fit
+        ev.gives.fits)
+        (entity_none u laws r lawful) valid.is_target))
     execute_ok (call e) k set hidden f valid written hides met s g =
         chain (evaluate c e) (λ _. give tt) s _ _ (statement_ok e k set hidden f valid written hides met s g)
         (λ v o d. record { grown = d.0; good = d.1 })
@@ -517,10 +587,10 @@ module _ (u : List ClassT) (laws : UniverseLaws u) (r : Running u) where
           grown = grow_on (heap_of s) (heap_of v) (heap_of m) a.later.grown (grow_on (heap_of v) (heap_of l) (heap_of m) h.0.grown d.0);
           good = d.1;
         })
-        (set_ok u laws r k set hidden f1 x valid.target z.value true l good hides h.1 (λ q. h.2) (entity_none u laws r)
+        (set_ok u laws r lawful k set hidden f1 x valid.target z.value true l good hides h.1 (λ q. h.2) (entity_none u laws r lawful)
         valid.is_target)))
     execute_ok (choose bs o) k set hidden f valid written hides met s g =
-        branches_ok bs o k set hidden f valid.0 valid.1 written.0 written.1 hides met s g
+        branches_ok bs o (otherwise_ok o) k set hidden f valid.0 valid.1 written.0 written.1 hides met s g
     execute_ok (loop start claims exit body variant) k set hidden f valid written hides met s g =
         let f1 = behind_on u r (compound_flow (meanings_of u r) hidden start) f in
         let at = known_in_loop S k start body in
@@ -536,10 +606,13 @@ module _ (u : List ClassT) (laws : UniverseLaws u) (r : Running u) where
         })
         (turns_ok r.turns at set1 hidden f1 exit body valid.1 written.1 hides met.1.0
         (λ t h. safe_more (execute_all c body t) _ _
-        (λ y p e. (e.grown, good_fewer at _ set1 f1 y (fewer_next S k start exit body valid.1.type valid.1.valid)
+        (λ y p e. record {
+          grown = e.grown;
+          good = good_fewer at _ set1 f1 y (fewer_next S k start exit body valid.1.type valid.1.valid)
         (good_set _ set1 (set_after_all set1 body) f1 y (all_set_stays body set1)
         (good_less _ (set_after_all set1 body) f1 _ y
-        (λ m q. flow_keeps _ _ (compound_flow (meanings_of u r) (usable_if_false exit ++ hidden) body) f1 m q) e.good))))
+        (stays_set u laws r lawful (compound_flow (meanings_of u r) (usable_if_false exit ++ hidden) body) f1) e.good));
+        })
         (execute_all_ok body (known_where S at false exit) set1 (usable_if_false exit ++ hidden) f1 valid.2 written.2 hides_exit
         met.1.1 t h))
         v (good_fewer at (known_after_all S k start) set1 f1 v (fewer_first S k start body) d.good)))
@@ -556,59 +629,18 @@ module _ (u : List ClassT) (laws : UniverseLaws u) (r : Running u) where
         (execute_all_ok is (known_after S k i) (set_after set i) hidden
         (behind_on u r (instruction_flow (meanings_of u r) hidden i) f) valid.1 written.1 hides met.1 v d.good))
 
-    branches_ok : (bs : Branches) (o : Otherwise) → BranchesKeep bs o
-    branches_ok no_branches no_else k set hidden f valid other written last hides met s g =
+    branches_ok : (bs : Branches) (o : Otherwise) → OtherwiseKeeps o → BranchesKeep bs o
+    branches_ok no_branches o otherwise k set hidden f valid other written last hides met s g =
+        otherwise k set hidden f other last hides met s g
+    branches_ok (and_branch e is bs) o otherwise = branch_by e is bs o (execute_all_ok is) (branches_ok bs o otherwise)
+
+    otherwise_ok : (o : Otherwise) → OtherwiseKeeps o
+    otherwise_ok no_else k set hidden f valid written hides met s g =
         record { grown = grow_same (heap_of s); good = good_fewer _ k set f s (fewer_none S k) g }
-    branches_ok no_branches (else_part is) k set hidden f valid other written last hides met s g =
+    otherwise_ok (else_part is) k set hidden f valid written hides met s g =
         safe_more (execute_all c is s) _ _
         (λ v p d. record { grown = d.grown; good = good_fewer _ (known_after_all S k is) _ _ v (fewer_else S k is) d.good })
-        (execute_all_ok is k set hidden f other last hides met s g)
-    branches_ok (and_branch e is bs) o k set hidden f valid other written last hides met s g =
-        let f1 = behind_on u r (flow_of u r hidden e) f in
-        let hides_true = hides_more u laws r k [] hidden e valid.0.type (usable_if_true e) valid.0.valid hides (true_is_test e) in
-        let hides_false = hides_more u laws r k [] hidden e valid.0.type (usable_if_false e) valid.0.valid hides (false_is_test e) in
-        condition_ok k set hidden f e valid.0 written.0 hides met.0 s g
-        (λ b. if b then execute_all c is else execute_branches c bs (execute_otherwise c o)) _
-        (branch_ok e is bs o k set hidden f valid other written last hides_true hides_false met s)
-
-    branch_ok : (e : Ex) (is : Inss) (bs : Branches) (o : Otherwise) (k : List Fact) (set hidden : List (List ℕ)) (f : FieldSet)
-        (valid : ValidBranches S k set (and_branch e is bs))
-        → ValidOtherwise S (known_otherwise S k (and_branch e is bs)) set o
-        → BranchesAreWritten (IsTypeOfText u r) (and_branch e is bs) → OtherwiseIsWritten (IsTypeOfText u r) o
-        → HidesNone u r (usable_if_true e ++ hidden) → HidesNone u r (usable_if_false e ++ hidden)
-        → MetOn u r (branches_flow (meanings_of u r) hidden (and_branch e is bs) (λ ns. otherwise_flow (meanings_of u r) ns o)) f
-        → (s : State) (b : Bool) (v : State) → Grow (heap_of s) (heap_of v)
-        → Good u r (known_where S k b e) set (behind_on u r (flow_of u r hidden e) f) v
-        → Safe ((if b then execute_all c is else execute_branches c bs (execute_otherwise c o)) v)
-        (Done u r (known_after S k (choose (and_branch e is bs) o))
-        (set_by_branches set (and_branch e is bs) (set_otherwise set o))
-        (behind_on u r (branches_flow (meanings_of u r) hidden (and_branch e is bs) (λ ns. otherwise_flow (meanings_of u r) ns o)) f) s)
-    branch_ok e is bs o k set hidden f valid other written last hides_true hides_false met s true v grown good =
-        let f1 = behind_on u r (flow_of u r hidden e) f in
-        safe_more (execute_all c is v) _ _
-        (λ y p d. record {
-          grown = grow_on (heap_of s) (heap_of v) (heap_of y) grown d.grown;
-          good =
-              good_fewer _ (known_after_all S (known_where S k true e) is) _ _ y (fewer_branch S k e is bs o valid.0.type valid.0.valid)
-              (good_set _ _ (set_after_all set is) _ y
-              (λ z q. (among_both (set_by_branches set bs (set_otherwise set o)) (set_after_all set is) z q).0)
-              (good_less _ (set_after_all set is) _ _ y (λ m q. and_left _ _ q) d.good));
-        })
-        (execute_all_ok is (known_where S k true e) set (usable_if_true e ++ hidden) f1 valid.1 written.1 hides_true met.1.0 v good)
-    branch_ok e is bs o k set hidden f valid other written last hides_true hides_false met s false v grown good =
-        let f1 = behind_on u r (flow_of u r hidden e) f in
-        let names = set_by_branches set bs (set_otherwise set o) in
-        safe_more (execute_branches c bs (execute_otherwise c o) v) _ _
-        (λ y p d. record {
-          grown = grow_on (heap_of s) (heap_of v) (heap_of y) grown d.grown;
-          good =
-              good_fewer _ (known_after S (known_where S k false e) (choose bs o)) _ _ y
-              (fewer_later S k e is bs o valid.0.type valid.0.valid)
-              (good_set _ _ names _ y (λ z q. (among_both names (set_after_all set is) z q).1)
-              (good_less _ names _ _ y (λ m q. and_right _ _ q) d.good));
-        })
-        (branches_ok bs o (known_where S k false e) set (usable_if_false e ++ hidden) f1 valid.2 other written.2 last hides_false
-        met.1.1 v good)
+        (execute_all_ok is k set hidden f valid written hides met s g)
 
   pub compounds_keep : CompoundsKeep u r
   compounds_keep k set hidden f is valid written hides met s g = execute_all_ok is k set hidden f valid written hides met s g

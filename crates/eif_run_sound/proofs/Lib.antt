@@ -3,6 +3,7 @@ pub mod Flows
 pub mod Entities
 pub mod Known
 pub mod Types
+pub mod Declarations
 pub mod Calls
 pub mod Names
 pub mod Targets
@@ -12,3 +13,5 @@ pub mod Operands
 pub mod Expressions
 pub mod Assigned
 pub mod Instructions
+pub mod Levels
+pub mod Runs

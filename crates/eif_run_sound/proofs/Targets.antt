@@ -1,6 +1,6 @@
 -- Calls on targets, and of versions of parents.
 use Rattle.std.proofs.Common.{◌≡◌, ℕ, Bool, true, false, List, [], ◌∷◌, map, Option, Some, None, refl, sym, ap, ap₂, subst, ◌∙◌}
-use Rattle.std.specs.Prelude.{if◌then◌else◌}
+use Rattle.std.specs.Prelude.{if◌then◌else◌, is_some}
 use Rattle.std.specs.Option.{option_map, option_map_or, option_and_then}
 use Rattle.eif_tree.specs.declared.tree.Mark.{Mark}
 use Rattle.eif_tree.specs.Tree.{ClassT}
@@ -110,7 +110,7 @@ module _ (u : List ClassT) (laws : UniverseLaws u) (r : Running u) where
         let actuals : base_actuals S t ≡ ys = ap (λ o. option_map_or actuals_in o no_actuals) base.3 in
         let there = ap (λ o. signature u (line_by (line_of u) (option_and_then class_in o)) x) (sym base.3) ∙ found in
         let something = not_void system (heap_of s) (closed r t) w.value
-        (laws.open_types.attached class_of_text r.actuals (suit u laws r) t attached) shows.fits in
+        (laws.open_types.attached class_of_text r.actuals (suit u laws r) t attached (ap is_some base.3)) shows.fits in
         let o = as_object system (heap_of s) (closed r t) w.value something shows.fits in
         let over = laws.open_types.base class_of_text r.actuals (suit u laws r) o.object t o.conforms b base.1 ys base.3 in
         let through_class : seen_class system class_of_text w.type ≡ Through b ys =

@@ -1,5 +1,5 @@
 -- A body that runs, and what a runner of bodies promises.
-use Rattle.std.specs.Prelude.{◌≡◌, false, List, ℕ, Option, Some, slice_get}
+use Rattle.std.specs.Prelude.{◌≡◌, false, List, Option, Some, None, slice_get}
 use Rattle.eif_tree.specs.Members.{result_name}
 use Rattle.eif_tree.specs.Tree.{TypeT, DeclT, ClassT}
 use Rattle.eif_classes.specs.Entries.{Declaration}
@@ -90,13 +90,6 @@ pub record Running (u : List ClassT) : Type 0 where
   pub text : ClassT
   pub at : slice_get u declaration.class_number ≡ Some text
   pub declares : declaration_of text declaration.name ≡ Some declaration.tree
-  -- a routine, called by the first name that it declares, with arguments and locals that are no features, and none
-  -- is called Result
-  pub no_field : is_attribute declaration.tree.kind ≡ false
-  pub effective : is_deferred_kind declaration.tree.kind ≡ false
-  pub entities : ValidEntities (in_body u declaration.class_number text declaration.tree)
-  pub no_result : entity declaration.tree result_name ≡ None
-  pub named : (in_body u declaration.class_number text declaration.tree).declared ≡ Some declaration.name
   pub actuals : Actuals
   pub given : List Value
   -- the type of the object, and the actuals of the class of the text on it
@@ -117,6 +110,15 @@ written u r t = resolved u r.text t
 
 abbrev pub closed : {u : List ClassT} → Running u → TyT → TyT
 closed r t = put_in r.actuals t
+
+-- its text is that of a routine, called by the first name that it declares, with arguments and locals that are no
+-- features, and none is called Result
+pub record IsWrittenRoutine (u : List ClassT) (r : Running u) : Type 0 where
+  pub no_field : is_attribute r.declaration.tree.kind ≡ false
+  pub effective : is_deferred_kind r.declaration.tree.kind ≡ false
+  pub entities : ValidEntities (setting_of u r)
+  pub no_result : entity r.declaration.tree result_name ≡ None
+  pub named : (setting_of u r).declared ≡ Some r.declaration.name
 
 -- what its names do to the fields of the object
 abbrev pub meanings_of : (u : List ClassT) → Running u → Meanings

@@ -5,3 +5,4 @@ pub mod WrittenTexts
 pub mod UniverseLaws
 pub mod ExpressionRuns
 pub mod InstructionRuns
+pub mod Soundness

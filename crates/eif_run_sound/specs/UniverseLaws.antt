@@ -1,5 +1,5 @@
 -- What runs ask of the classes of a universe. Each law is one that follows from rules which its classes keep.
-use Rattle.std.specs.Prelude.{◌≡◌, ◌⊎◌, ℕ, true, false, List, [], map, Option, Some, None, slice_get}
+use Rattle.std.specs.Prelude.{◌≡◌, ◌⊎◌, ℕ, true, false, List, [], map, Option, Some, None, is_some, slice_get}
 use Rattle.std.specs.Option.{option_map}
 use Rattle.eif_base.specs.Numbering.{is_among}
 use Rattle.eif_tree.specs.declared.tree.Literal.{Literal}
@@ -55,9 +55,9 @@ pub record OpenTypeLaws (u : List ClassT) : Type 0 where
   -- with actuals put in what conforms in the class conforms
   pub closes : (k : ℕ) (xs : Actuals) → Suit (system_over u) k xs → (a b : TyT) → conforms u k a b ≡ true
       → closed_conforms u (put_in xs a) (put_in xs b) ≡ true
-  -- and what is attached in the class takes no Void
+  -- and what is attached in the class takes no Void, if it has a class or a constraint
   pub attached : (k : ℕ) (xs : Actuals) → Suit (system_over u) k xs → (t : TyT) → is_attached u k t ≡ true
-      → takes_void (put_in xs t) ≡ false
+      → is_some (base_type u k t) ≡ true → takes_void (put_in xs t) ≡ false
   -- an object that fits a type has the class of the type, or of its constraint, above it
   pub base : (k : ℕ) (xs : Actuals) → Suit (system_over u) k xs → (o : Object) (t : TyT)
       → closed_conforms u (type_of o) (put_in xs t) ≡ true
