@@ -24,7 +24,7 @@ use Rattle.eif_body_rules.specs.Targets.{is_attribute_name}
 use Rattle.eif_flow_rules.specs.FieldSets.{FieldSet, only, union, common}
 use Rattle.eif_flow_rules.specs.FlowSteps.{unless_hidden, target_flow}
 use Rattle.eif_flow_rules.specs.FlowTrees.{Flow, idle, sets}
-use Rattle.eif_flow_rules.specs.VersionFlows.{setting_of}
+use Rattle.eif_flow_rules.specs.VersionFlows as flows
 use Rattle.eif_meaning.specs.Values.{Value, void, integer, boolean, character, reference, ClassType, Object, State, Seen, no_feature, after, give, some_or}
 use Rattle.eif_meaning.specs.System.{System, system_over}
 use Rattle.eif_meaning.specs.Objects.{set_at, field_type, no_content, plain_object, object_of, object_at, with_heap, replace_object}
@@ -178,7 +178,7 @@ module _ (u : List ClassT) (laws : UniverseLaws u) (r : Running u) (lawful : IsW
       by : (b : Bool) → bind (line_of u r.type.class_number) class_of_text x.name ≡ None
           → (if b then idle else (meanings_of u r).assigned x.name) ≡ idle
       by true e = refl
-      by false e = ap (λ o. option_map_or (setting_of (line_of u r.type.class_number)) o idle) e
+      by false e = ap (λ o. option_map_or (flows.setting_of (line_of u r.type.class_number)) o idle) e
 
   -- ---- the targets
 
@@ -273,10 +273,10 @@ module _ (u : List ClassT) (laws : UniverseLaws u) (r : Running u) (lawful : IsW
             → Fits system (heap_of s) (closed r (written u r b)) z
         value_of y b e true i z at =
             let same : Some (local b) ≡ Some (local a) = sym e ∙ (ap (entity r.declaration.tree) (same_name y x.name i) ∙ is) in
-            let type : written u r b ≡ t = ap (type_by t) same ∙ type in
+            let of_b : written u r b ≡ t = ap (type_by t) same ∙ type in
             subst (Fits system (heap_of s) (closed r (written u r b)))
             (some_is (ap (λ b. if b then Some v else s.local y) (sym i) ∙ at))
-            (subst (λ t. Fits system (heap_of s) (closed r t) v) (sym type) fits)
+            (subst (λ t. Fits system (heap_of s) (closed r t) v) (sym of_b) fits)
         value_of y b e false i z at = g.locals y b e z (ap (λ b. if b then Some v else s.local y) (sym i) ∙ at)
 
         sure_of : (y : List ℕ) (b : TypeT) → entity r.declaration.tree y ≡ Some (local b) → (i : Bool) → bytes_eq y x.name ≡ i
@@ -336,7 +336,7 @@ module _ (u : List ClassT) (laws : UniverseLaws u) (r : Running u) (lawful : IsW
               → (if b then idle else (meanings_of u r).assigned x.name) ≡ sets n
           by true h = let q : None ≡ Some sg = sym (h refl) ∙ signed in cc
           by false h =
-              ap (λ o. option_map_or (setting_of (line_of u r.type.class_number)) o idle) bound.2
+              ap (λ o. option_map_or (flows.setting_of (line_of u r.type.class_number)) o idle) bound.2
               ∙ (ap (λ o. if option_map_or is_field o false then sets n else idle) bound.4
               ∙ ap (λ b. if b then sets n else idle) bound.5)
 

@@ -183,7 +183,7 @@ module _ (u : List ClassT) (laws : UniverseLaws u) (r : Running u) (lawful : IsW
 
   -- ---- the version of a parent
 
-  pub routine : IsRoutine u r.declaration
+  abbrev pub routine : IsRoutine u r.declaration
   routine = record { text = r.text; at = r.at; declares = r.declares; no_field = lawful.no_field; effective = lawful.effective }
 
   as_it_is : (o : Option TyT) → option_map (λ t. t) o ≡ o
@@ -652,7 +652,7 @@ module _ (u : List ClassT) (laws : UniverseLaws u) (r : Running u) (lawful : IsW
           gives = h.gives;
           told = told_name k n p x args o w h.read;
         })
-        (name_ok u laws r k set hidden f' p x name.given (Some t) vs v a.good hides a.fit entity_none name.gives
+        (name_ok u laws r k set hidden f' p x name.given (Some t) vs v a.good hides a.fit (entity_none x) name.gives
         (name_set k n set x args name.given name.args_valid sets.1) met.1))
     evaluate_ok (precursor p parent args) k n set hidden f t valid sets written hides met s g =
         let w = used_precursor S k n p parent args t valid in

@@ -222,7 +222,7 @@ module _ (u : List ClassT) (laws : UniverseLaws u) (r : Running u) (lawful : IsW
       (arguments_ok u laws r lawful args k [] set hidden f w.given w.args_valid valid.1 written.1 hides met.0 s g)
       (λ v vs a. safe_more (call_name c x vs v) _ _
       (λ y o h. (grow_on (heap_of s) (heap_of v) (heap_of y) a.later.grown h.later.grown, h.good))
-      (name_ok u laws r k set hidden f1 p x w.given None vs v a.good hides a.fit (entity_none u laws r lawful) w.gives
+      (name_ok u laws r k set hidden f1 p x w.given None vs v a.good hides a.fit (entity_none u laws r lawful x) w.gives
       (λ e. no_read w.gives e) met.1))
     where
       no_read : valid_calls.Gives S k x valid.0.given None (meaning S k x) → valid.0.given ≡ []
@@ -232,7 +232,7 @@ module _ (u : List ClassT) (laws : UniverseLaws u) (r : Running u) (lawful : IsW
           no_read_by : (m : rules.Meaning)
               → valid_calls.Gives S k x valid.0.given None m → reads.LocalIsSet set x m
           no_read_by (rules.test_local t) h = tt
-          no_read_by (rules.entity y) h = cc
+          no_read_by (rules.entity y) h = let q = h.1 in cc
           no_read_by (rules.feature y) h = tt
           no_read_by rules.unknown h = tt
   statement_ok (precursor p parent args) k set hidden f valid written hides met s g =
@@ -570,7 +570,7 @@ module _ (u : List ClassT) (laws : UniverseLaws u) (r : Running u) (lawful : IsW
         (fits_in u laws r (heap_of v) valid.source valid.target w.value valid.fit ev.gives.fits)
         (attached_source k (heap_of v) valid.source valid.target (judge S k [] e).value w.value valid.source_valid.value valid.fit
         ev.gives.fits)
-        (entity_none u laws r lawful) valid.is_target))
+        (entity_none u laws r lawful x.name) valid.is_target))
     execute_ok (call e) k set hidden f valid written hides met s g =
         chain (evaluate c e) (λ _. give tt) s _ _ (statement_ok e k set hidden f valid written hides met s g)
         (λ v o d. record { grown = d.0; good = d.1 })
@@ -587,8 +587,8 @@ module _ (u : List ClassT) (laws : UniverseLaws u) (r : Running u) (lawful : IsW
           grown = grow_on (heap_of s) (heap_of v) (heap_of m) a.later.grown (grow_on (heap_of v) (heap_of l) (heap_of m) h.0.grown d.0);
           good = d.1;
         })
-        (set_ok u laws r lawful k set hidden f1 x valid.target z.value true l good hides h.1 (λ q. h.2) (entity_none u laws r lawful)
-        valid.is_target)))
+        (set_ok u laws r lawful k set hidden f1 x valid.target z.value true l good hides h.1 (λ q. h.2)
+        (entity_none u laws r lawful x.name) valid.is_target)))
     execute_ok (choose bs o) k set hidden f valid written hides met s g =
         branches_ok bs o (otherwise_ok o) k set hidden f valid.0 valid.1 written.0 written.1 hides met s g
     execute_ok (loop start claims exit body variant) k set hidden f valid written hides met s g =
@@ -608,10 +608,14 @@ module _ (u : List ClassT) (laws : UniverseLaws u) (r : Running u) (lawful : IsW
         (λ t h. safe_more (execute_all c body t) _ _
         (λ y p e. record {
           grown = e.grown;
-          good = good_fewer at _ set1 f1 y (fewer_next S k start exit body valid.1.type valid.1.valid)
-        (good_set _ set1 (set_after_all set1 body) f1 y (all_set_stays body set1)
-        (good_less _ (set_after_all set1 body) f1 _ y
-        (stays_set u laws r lawful (compound_flow (meanings_of u r) (usable_if_false exit ++ hidden) body) f1) e.good));
+          good =
+              good_fewer at (known_after_all S (known_where S at false exit) body) set1 f1 y
+              (fewer_next S k start exit body valid.1.type valid.1.valid)
+              (good_set (known_after_all S (known_where S at false exit) body) set1 (set_after_all set1 body) f1 y
+              (all_set_stays body set1)
+              (good_less (known_after_all S (known_where S at false exit) body) (set_after_all set1 body) f1
+              (behind_on u r (compound_flow (meanings_of u r) (usable_if_false exit ++ hidden) body) f1) y
+              (stays_set u laws r lawful (compound_flow (meanings_of u r) (usable_if_false exit ++ hidden) body) f1) e.good));
         })
         (execute_all_ok body (known_where S at false exit) set1 (usable_if_false exit ++ hidden) f1 valid.2 written.2 hides_exit
         met.1.1 t h))
@@ -630,8 +634,8 @@ module _ (u : List ClassT) (laws : UniverseLaws u) (r : Running u) (lawful : IsW
         (behind_on u r (instruction_flow (meanings_of u r) hidden i) f) valid.1 written.1 hides met.1 v d.good))
 
     branches_ok : (bs : Branches) (o : Otherwise) → OtherwiseKeeps o → BranchesKeep bs o
-    branches_ok no_branches o otherwise k set hidden f valid other written last hides met s g =
-        otherwise k set hidden f other last hides met s g
+    branches_ok no_branches o otherwise =
+        λ k set hidden f valid other written last hides met s g. otherwise k set hidden f other last hides met s g
     branches_ok (and_branch e is bs) o otherwise = branch_by e is bs o (execute_all_ok is) (branches_ok bs o otherwise)
 
     otherwise_ok : (o : Otherwise) → OtherwiseKeeps o

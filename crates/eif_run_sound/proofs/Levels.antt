@@ -380,44 +380,44 @@ module _ (u : List ClassT) (laws : UniverseLaws u) (turns : ℕ) (again : Runner
     leaves : (t : State) (a : Option Value)
         → Done u r (known_after_all (setting_of u r) [] body) (set_after_all [] body)
         (behind u d flow f) first t tt → Answers system t.store.heap (signature_on u text y xs).result a → Left t a
-    leaves t a done answers = record {
-      heap = done.good.heap;
-      grown = done.grown;
+    leaves t a ended answers = record {
+      heap = ended.good.heap;
+      grown = ended.grown;
       answers = answers;
       ready = λ o at.
           subst (λ (o : Object). Ready u (behind u o.made.class_number (flow_on u o.made.class_number y) f) o)
-          (some_is (sym done.good.there ∙ at))
-          (subst (λ (ty : ClassType). Ready u (behind u ty.class_number (flow_on u ty.class_number y) f) done.good.object)
-          (sym done.good.made)
-          (subst (λ m. Ready u (behind u d m f) done.good.object) (sym flow_is) done.good.ready));
+          (some_is (sym ended.good.there ∙ at))
+          (subst (λ (ty : ClassType). Ready u (behind u ty.class_number (flow_on u ty.class_number y) f) ended.good.object)
+          (sym ended.good.made)
+          (subst (λ m. Ready u (behind u d m f) ended.good.object) (sym flow_is) ended.good.ready));
     }
 
     finish_ok : (t : State) (o : Option TypeT) → y.tree.result_type ≡ o
         → Done u r (known_after_all (setting_of u r) [] body) (set_after_all [] body)
         (behind u d flow f) first t tt
         → reads.ResultIsSet (set_after_all [] body) (option_map (resolved u text) o) → Safe (finish o t) Left
-    finish_ok t None i done set =
-        leaves t None done (subst (λ o. Answers system t.store.heap (option_map (put_in xs) (option_map (resolved u text) o)) None) (sym i) tt)
-    finish_ok t (Some a) i done set =
-        let w = set_is t.result (done.good.result_set a i set) in
+    finish_ok t None i ended set =
+        leaves t None ended (subst (λ o. Answers system t.store.heap (option_map (put_in xs) (option_map (resolved u text) o)) None) (sym i) tt)
+    finish_ok t (Some a) i ended set =
+        let w = set_is t.result (ended.good.result_set a i set) in
         subst (λ o. Safe (some_or unset o (λ v. give (Some v)) t) Left) (sym w.1)
-        (leaves t (Some w.0) done
+        (leaves t (Some w.0) ended
         (subst (λ o. Answers system t.store.heap (option_map (put_in xs) (option_map (resolved u text) o)) (Some w.0)) (sym i)
-        (done.good.result a i w.0 w.1)))
+        (ended.good.result a i w.0 w.1)))
 
     written_ok : Safe (run_written c (routine locals body) first) Left
     written_ok =
         chain (execute_all c body) (λ _. finish y.tree.result_type) first _ Left
         (compounds_keep u laws r lawful [] [] (entity_names y.tree) f body valid_routine.body_valid k.written hides
         (subst (λ m. Met u d m f) flow_is e.met) first begins)
-        (λ t o done. finish_ok t y.tree.result_type refl (unit_done t o done) valid_routine.result_set)
+        (λ t o ended. finish_ok t y.tree.result_type refl (unit_done t o ended) valid_routine.result_set)
       where
         unit_done : (t : State) (o : Unit {0})
             → Done u r (known_after_all (setting_of u r) [] body) (set_after_all [] body)
             (behind u d flow f) first t o
             → Done u r (known_after_all (setting_of u r) [] body) (set_after_all [] body)
             (behind u d flow f) first t tt
-        unit_done t o done = record { grown = done.grown; good = done.good }
+        unit_done t o ended = record { grown = ended.grown; good = ended.good }
 
   -- ---- a body
 

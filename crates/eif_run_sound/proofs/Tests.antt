@@ -45,7 +45,7 @@ pub attached_apart : (xs : List (List ℕ)) (x : List ℕ) → usable_test (all_
 attached_apart [] x = refl
 attached_apart (y ∷ ys) x = attached_apart ys x
 
-same_name : (x y : List ℕ) → bytes_eq x y ≡ true → x ≡ y
+pub same_name : (x y : List ℕ) → bytes_eq x y ≡ true → x ≡ y
 same_name x y e = (bytes_eq-Decides x y).0 e
 
 module _ (u : List ClassT) (laws : UniverseLaws u) (r : Running u) where

@@ -1,5 +1,5 @@
 -- A body that runs, and what a runner of bodies promises.
-use Rattle.std.specs.Prelude.{◌≡◌, false, List, Option, Some, None, slice_get}
+use Rattle.std.specs.Prelude.{◌≡◌, ℕ, false, List, Option, Some, None, slice_get}
 use Rattle.eif_tree.specs.Members.{result_name}
 use Rattle.eif_tree.specs.Tree.{TypeT, DeclT, ClassT}
 use Rattle.eif_classes.specs.Entries.{Declaration}
