@@ -608,12 +608,12 @@ module _ (u : List ClassT) (laws : UniverseLaws u) (r : Running u) (lawful : IsW
 
   mutual
     pub evaluate_ok : (e : Ex) → ExpressionKeeps e
-    evaluate_ok (literal p x) k n set hidden f t valid sets written hides met s g =
+    evaluate_ok (literal p x) k n set hidden f t valid sets spelled hides met s g =
         safe_more (evaluate_literal x s) (EndsIn system (laws_of.literal_type x) s) _
         (λ v o ends. plainly k n set f (literal p x) t (laws_of.literal_type x) s s v o (later_same [] s) g ends
         (literal_is S k n p x t valid ∙ (literal_types x).0) (literal_types x).1 (λ b. refl) refl refl)
         (literal_given system laws.types x s g.heap)
-    evaluate_ok (void_value p) k n set hidden f t valid sets written hides met s g = record {
+    evaluate_ok (void_value p) k n set hidden f t valid sets spelled hides met s g = record {
       later = later_same [] s;
       good = g;
       gives = subst (λ t. Gives u r (heap_of s) (Some t) (Some (record { value = void; type = none_type })))
@@ -624,14 +624,14 @@ module _ (u : List ClassT) (laws : UniverseLaws u) (r : Running u) (lawful : IsW
         void = λ w i j. ap (λ (w : Seen). w.value) (sym (some_is i));
       };
     }
-    evaluate_ok (current_value p) k n set hidden f t valid sets written hides met s g = record {
+    evaluate_ok (current_value p) k n set hidden f t valid sets spelled hides met s g = record {
       later = later_same [] s;
       good = g;
       gives = subst (λ t. Gives u r (heap_of s) (Some t) (Some (record { value = r.current; type = current_type c })))
           (sym (current_is S k n p t valid)) (current_shown u laws r k set f s g met);
       told = told_nothing k n (current_value p) _ s (λ b. refl) refl refl;
     }
-    evaluate_ok (result_value p) k n set hidden f t valid sets written hides met s g =
+    evaluate_ok (result_value p) k n set hidden f t valid sets spelled hides met s g =
         safe_more (evaluate c (result_value p) s) _ _
         (λ v o h. record {
           later = h.0;
@@ -640,11 +640,11 @@ module _ (u : List ClassT) (laws : UniverseLaws u) (r : Running u) (lawful : IsW
           told = told_nothing k n (result_value p) o v (λ b. refl) refl refl;
         })
         (result_ok u laws r k set f s g t (result_is S k n p t valid) sets)
-    evaluate_ok (unqualified p x args) k n set hidden f t valid sets written hides met s g =
+    evaluate_ok (unqualified p x args) k n set hidden f t valid sets spelled hides met s g =
         let name = used_name S k n p x args t valid in
         let f' = behind_on u r (flow_of_all u r hidden args) f in
         chain (evaluate_all c args) (call_name c x) s _ _
-        (arguments_ok args k n set hidden f name.given name.args_valid sets.0 written.1 hides met.0 s g)
+        (arguments_ok args k n set hidden f name.given name.args_valid sets.0 spelled.1 hides met.0 s g)
         (λ v vs a. safe_more (call_name c x vs v) _ _
         (λ w o h. record {
           later = later_quiet (test_names_in args) s v w a.later h.later;
@@ -654,11 +654,11 @@ module _ (u : List ClassT) (laws : UniverseLaws u) (r : Running u) (lawful : IsW
         })
         (name_ok u laws r k set hidden f' p x name.given (Some t) vs v a.good hides a.fit (entity_none x) name.gives
         (name_set k n set x args name.given name.args_valid sets.1) met.1))
-    evaluate_ok (precursor p parent args) k n set hidden f t valid sets written hides met s g =
+    evaluate_ok (precursor p parent args) k n set hidden f t valid sets spelled hides met s g =
         let w = used_precursor S k n p parent args t valid in
         let f' = behind_on u r (flow_of_all u r hidden args) f in
         chain (evaluate_all c args) (call_version c (version c (written_name parent))) s _ _
-        (arguments_ok args k n set hidden f w.given w.args_valid sets written hides met.0 s g)
+        (arguments_ok args k n set hidden f w.given w.args_valid sets spelled hides met.0 s g)
         (λ v vs a. safe_more (call_version c (version c (written_name parent)) vs v) _ _
         (λ x o h. record {
           later = later_quiet (test_names_in args) s v x a.later h.0;
@@ -667,14 +667,14 @@ module _ (u : List ClassT) (laws : UniverseLaws u) (r : Running u) (lawful : IsW
           told = told_nothing k n (precursor p parent args) o x (λ b. refl) refl refl;
         })
         (version_ok k n set f' p parent args (Some t) w vs v a.good a.fit met.1))
-    evaluate_ok (qualified p e x args) k n set hidden f t valid sets written hides met s g =
+    evaluate_ok (qualified p e x args) k n set hidden f t valid sets spelled hides met s g =
         let w = used_call S k n p e x args t valid in
         let f1 = behind_on u r (flow_of u r hidden e) f in
         let f2 = behind_on u r (flow_of_all u r hidden args) f1 in
         chain (evaluate c e >>= need) (λ z. evaluate_all c args >>= call_on c z x.name) s _ _
-        (valued k n set f1 e w.target s (evaluate_ok e k n set hidden f w.target w.target_valid sets.0 written.0 hides met.0 s g))
+        (valued k n set f1 e w.target s (evaluate_ok e k n set hidden f w.target w.target_valid sets.0 spelled.0 hides met.0 s g))
         (λ v z ev. chain (evaluate_all c args) (call_on c z x.name) v _ _
-        (arguments_ok args k (n ++ test_names e) set hidden f1 w.given w.args_valid sets.1 written.1 hides met.1 v ev.good)
+        (arguments_ok args k (n ++ test_names e) set hidden f1 w.given w.args_valid sets.1 spelled.1 hides met.1 v ev.good)
         (λ y vs a. safe_more (call_on c z x.name vs y) _ _
         (λ l o h. record {
           later = later_then system (test_names e ++ test_names_in args) s y l
@@ -685,11 +685,11 @@ module _ (u : List ClassT) (laws : UniverseLaws u) (r : Running u) (lawful : IsW
         })
         (target_ok u laws r y a.good.heap w.target z x.name w.given (Some t) w.signed vs w.target_attached w.found w.called
         w.result_is (shows_grown u r (heap_of v) (heap_of y) w.target z a.later.grown ev.gives) a.fit)))
-    evaluate_ok (creation p y x args) k n set hidden f t valid sets written hides met s g =
+    evaluate_ok (creation p y x args) k n set hidden f t valid sets spelled hides met s g =
         let w = valid_creation S k n p y x args t valid in
         let f1 = behind_on u r (flow_of_all u r hidden args) f in
         chain (evaluate_all c args) (λ vs. create_object c (written_name x) vs (written_type c y)) s _ _
-        (arguments_ok args k n set hidden f w.given w.args_valid sets written.1 hides met s g)
+        (arguments_ok args k n set hidden f w.given w.args_valid sets spelled.1 hides met s g)
         (λ v vs a. safe_more (create_object c (written_name x) vs (written_type c y) v) _ _
         (λ l o h. record {
           later = later_then system (test_names_in args) s v l a.later h.0;
@@ -699,13 +699,13 @@ module _ (u : List ClassT) (laws : UniverseLaws u) (r : Running u) (lawful : IsW
         })
         (subst (λ z. Safe (create_object c (written_name x) vs z v)
         (λ l o. Extends system v l × Gives u r (heap_of l) (Some (attached_form (written u r y))) o)) (sym (written_is u laws r y))
-        (created_ok u laws r v a.good.heap (of_written S code.Vgce p y x) w.given vs w.created written.0 a.fit)))
-    evaluate_ok (test p y l e) k n set hidden f t valid sets written hides met s g =
+        (created_ok u laws r v a.good.heap (of_written S code.Vgce p y x) w.given vs w.created spelled.0 a.fit)))
+    evaluate_ok (test p y l e) k n set hidden f t valid sets spelled hides met s g =
         let w = valid_test S k n p y l e t valid in
         let f1 = behind_on u r (flow_of u r hidden e) f in
         chain (evaluate c e >>= need) (run_test c y l) s _ _
         (valued k (n ++ local_names l) set f1 e w.tested s
-        (evaluate_ok e k (n ++ local_names l) set hidden f w.tested w.tested_valid sets written.1 hides met s g))
+        (evaluate_ok e k (n ++ local_names l) set hidden f w.tested w.tested_valid sets spelled.1 hides met s g))
         (λ v z ev. safe_more (run_test c y l z v) _ _
         (λ x o h. record {
           later = later_within (test_names e ++ local_names l) (local_names l ++ test_names e) s x
@@ -720,7 +720,7 @@ module _ (u : List ClassT) (laws : UniverseLaws u) (r : Running u) (lawful : IsW
           };
         })
         (test_ok u laws r k n set f1 p y e w.tested v ev.good z ev.gives (λ m i j. ev.told.read z m refl i j) l t w refl))
-    evaluate_ok (paren p e) k n set hidden f t valid sets written hides met s g =
+    evaluate_ok (paren p e) k n set hidden f t valid sets spelled hides met s g =
         safe_more (evaluate c e s) _ _
         (λ v o h. record {
           later = h.later;
@@ -728,177 +728,177 @@ module _ (u : List ClassT) (laws : UniverseLaws u) (r : Running u) (lawful : IsW
           gives = h.gives;
           told = record { held = h.told.held; read = h.told.read; void = h.told.void };
         })
-        (evaluate_ok e k n set hidden f t (paren_is S k n p e t valid) sets written hides met s g)
-    evaluate_ok (unary p o e) k n set hidden f t valid sets written hides met s g =
+        (evaluate_ok e k n set hidden f t (paren_is S k n p e t valid) sets spelled hides met s g)
+    evaluate_ok (unary p o e) k n set hidden f t valid sets spelled hides met s g =
         let w = valid_unary S k n p o e t valid in
         let f1 = behind_on u r (flow_of u r hidden e) f in
         chain (evaluate c e >>= need) (λ z. operate_one o z.value) s _ _
-        (valued k n set f1 e w.operand s (evaluate_ok e k n set hidden f w.operand w.operand_valid sets written.1 hides met s g))
-        (λ v z ev. unary_ok k n set f1 p o e t w.operand s v z written.0 w.types ev.later ev.good ev.gives
+        (valued k n set f1 e w.operand s (evaluate_ok e k n set hidden f w.operand w.operand_valid sets spelled.1 hides met s g))
+        (λ v z ev. unary_ok k n set f1 p o e t w.operand s v z spelled.0 w.types ev.later ev.good ev.gives
         (λ b i. ev.told.held z b refl i))
-    evaluate_ok (binary p op.AndThen q l m) k n set hidden f t valid sets written hides met s g =
+    evaluate_ok (binary p op.AndThen q l m) k n set hidden f t valid sets spelled hides met s g =
         let w = valid_binary S k n p op.AndThen q l m t valid in
         let f1 = behind_on u r (flow_of u r hidden l) f in
         let more = hides_left u laws r k n hidden op.AndThen l w.first w.left_valid hides in
         let f2 = behind_on u r (flow_of u r (usable_by_left op.AndThen l ++ hidden) m) f1 in
         chain (evaluate c l >>= need) (λ z. operate_with (Some true) op.AndThen z.value (evaluate c m >>= need)) s _ _
-        (valued k n set f1 l w.first s (evaluate_ok l k n set hidden f w.first w.left_valid sets.0 written.1 hides met.0 s g))
+        (valued k n set f1 l w.first s (evaluate_ok l k n set hidden f w.first w.left_valid sets.0 spelled.1 hides met.0 s g))
         (λ v z ev. and_then_ok k n set f1 f2 l m w.first w.second p q s v z w.left_valid ev
         (λ a i. stays_set (flow_of u r (usable_by_left op.AndThen l ++ hidden) m) f1 a i) t w.types.0 w.types.1
         (λ i. (w.right_valid, valued (k ++ facts S k n true l) (n ++ test_names l) set f2 m w.second v
         (evaluate_ok m (k ++ facts S k n true l) (n ++ test_names l) set (usable_by_left op.AndThen l ++ hidden) f1 w.second
-        w.right_valid sets.1 written.2 more met.1 v
+        w.right_valid sets.1 spelled.2 more met.1 v
         (known_right k n set f1 f2 l m w.first w.second p q s v z w.left_valid ev
         (λ a i. stays_set (flow_of u r (usable_by_left op.AndThen l ++ hidden) m) f1 a i) true i)))))
-    evaluate_ok (binary p op.OrElse q l m) k n set hidden f t valid sets written hides met s g =
+    evaluate_ok (binary p op.OrElse q l m) k n set hidden f t valid sets spelled hides met s g =
         let w = valid_binary S k n p op.OrElse q l m t valid in
         let f1 = behind_on u r (flow_of u r hidden l) f in
         let more = hides_left u laws r k n hidden op.OrElse l w.first w.left_valid hides in
         let f2 = behind_on u r (flow_of u r (usable_by_left op.OrElse l ++ hidden) m) f1 in
         chain (evaluate c l >>= need) (λ z. operate_with (Some false) op.OrElse z.value (evaluate c m >>= need)) s _ _
-        (valued k n set f1 l w.first s (evaluate_ok l k n set hidden f w.first w.left_valid sets.0 written.1 hides met.0 s g))
+        (valued k n set f1 l w.first s (evaluate_ok l k n set hidden f w.first w.left_valid sets.0 spelled.1 hides met.0 s g))
         (λ v z ev. or_else_ok k n set f1 f2 l m w.first w.second p q s v z w.left_valid ev
         (λ a i. stays_set (flow_of u r (usable_by_left op.OrElse l ++ hidden) m) f1 a i) t w.types.0 w.types.1
         (λ i. (w.right_valid, valued (k ++ facts S k n false l) (n ++ test_names l) set f2 m w.second v
         (evaluate_ok m (k ++ facts S k n false l) (n ++ test_names l) set (usable_by_left op.OrElse l ++ hidden) f1 w.second
-        w.right_valid sets.1 written.2 more met.1 v
+        w.right_valid sets.1 spelled.2 more met.1 v
         (known_right k n set f1 f2 l m w.first w.second p q s v z w.left_valid ev
         (λ a i. stays_set (flow_of u r (usable_by_left op.OrElse l ++ hidden) m) f1 a i) false i)))))
-    evaluate_ok (binary p op.Implies q l m) k n set hidden f t valid sets written hides met s g =
+    evaluate_ok (binary p op.Implies q l m) k n set hidden f t valid sets spelled hides met s g =
         let w = valid_binary S k n p op.Implies q l m t valid in
         let f1 = behind_on u r (flow_of u r hidden l) f in
         let more = hides_left u laws r k n hidden op.Implies l w.first w.left_valid hides in
         let f2 = behind_on u r (flow_of u r (usable_by_left op.Implies l ++ hidden) m) f1 in
         chain (evaluate c l >>= need) (λ z. operate_with (Some true) op.Implies z.value (evaluate c m >>= need)) s _ _
-        (valued k n set f1 l w.first s (evaluate_ok l k n set hidden f w.first w.left_valid sets.0 written.1 hides met.0 s g))
+        (valued k n set f1 l w.first s (evaluate_ok l k n set hidden f w.first w.left_valid sets.0 spelled.1 hides met.0 s g))
         (λ v z ev. implies_ok k n set f1 f2 l m w.first w.second p q s v z w.left_valid ev
         (λ a i. stays_set (flow_of u r (usable_by_left op.Implies l ++ hidden) m) f1 a i) t w.types.0 w.types.1
         (λ i. (w.right_valid, valued (k ++ facts S k n true l) (n ++ test_names l) set f2 m w.second v
         (evaluate_ok m (k ++ facts S k n true l) (n ++ test_names l) set (usable_by_left op.Implies l ++ hidden) f1 w.second
-        w.right_valid sets.1 written.2 more met.1 v
+        w.right_valid sets.1 spelled.2 more met.1 v
         (known_right k n set f1 f2 l m w.first w.second p q s v z w.left_valid ev
         (λ a i. stays_set (flow_of u r (usable_by_left op.Implies l ++ hidden) m) f1 a i) true i)))))
-    evaluate_ok (binary p op.Not q l m) k n set hidden f t valid sets written hides met s g = absurd written.0
-    evaluate_ok (binary p op.Plus q l m) k n set hidden f t valid sets written hides met s g =
+    evaluate_ok (binary p op.Not q l m) k n set hidden f t valid sets spelled hides met s g = absurd spelled.0
+    evaluate_ok (binary p op.Plus q l m) k n set hidden f t valid sets spelled hides met s g =
         let w = valid_binary S k n p op.Plus q l m t valid in
         let f1 = behind_on u r (flow_of u r hidden l) f in
-        both_ok op.Plus p q l m k n set f f1 (behind_on u r (flow_of u r hidden m) f1) t w.first w.second s refl written.0 w.types
+        both_ok op.Plus p q l m k n set f f1 (behind_on u r (flow_of u r hidden m) f1) t w.first w.second s refl spelled.0 w.types
         w.left_valid w.right_valid
-        (evaluate_ok l k n set hidden f w.first w.left_valid sets.0 written.1 hides met.0 s g)
-        (λ v h. evaluate_ok m k (n ++ test_names l) set hidden f1 w.second w.right_valid sets.1 written.2 hides met.1 v h)
-    evaluate_ok (binary p op.Minus q l m) k n set hidden f t valid sets written hides met s g =
+        (evaluate_ok l k n set hidden f w.first w.left_valid sets.0 spelled.1 hides met.0 s g)
+        (λ v h. evaluate_ok m k (n ++ test_names l) set hidden f1 w.second w.right_valid sets.1 spelled.2 hides met.1 v h)
+    evaluate_ok (binary p op.Minus q l m) k n set hidden f t valid sets spelled hides met s g =
         let w = valid_binary S k n p op.Minus q l m t valid in
         let f1 = behind_on u r (flow_of u r hidden l) f in
-        both_ok op.Minus p q l m k n set f f1 (behind_on u r (flow_of u r hidden m) f1) t w.first w.second s refl written.0 w.types
+        both_ok op.Minus p q l m k n set f f1 (behind_on u r (flow_of u r hidden m) f1) t w.first w.second s refl spelled.0 w.types
         w.left_valid w.right_valid
-        (evaluate_ok l k n set hidden f w.first w.left_valid sets.0 written.1 hides met.0 s g)
-        (λ v h. evaluate_ok m k (n ++ test_names l) set hidden f1 w.second w.right_valid sets.1 written.2 hides met.1 v h)
-    evaluate_ok (binary p op.Times q l m) k n set hidden f t valid sets written hides met s g =
+        (evaluate_ok l k n set hidden f w.first w.left_valid sets.0 spelled.1 hides met.0 s g)
+        (λ v h. evaluate_ok m k (n ++ test_names l) set hidden f1 w.second w.right_valid sets.1 spelled.2 hides met.1 v h)
+    evaluate_ok (binary p op.Times q l m) k n set hidden f t valid sets spelled hides met s g =
         let w = valid_binary S k n p op.Times q l m t valid in
         let f1 = behind_on u r (flow_of u r hidden l) f in
-        both_ok op.Times p q l m k n set f f1 (behind_on u r (flow_of u r hidden m) f1) t w.first w.second s refl written.0 w.types
+        both_ok op.Times p q l m k n set f f1 (behind_on u r (flow_of u r hidden m) f1) t w.first w.second s refl spelled.0 w.types
         w.left_valid w.right_valid
-        (evaluate_ok l k n set hidden f w.first w.left_valid sets.0 written.1 hides met.0 s g)
-        (λ v h. evaluate_ok m k (n ++ test_names l) set hidden f1 w.second w.right_valid sets.1 written.2 hides met.1 v h)
-    evaluate_ok (binary p op.Divide q l m) k n set hidden f t valid sets written hides met s g =
+        (evaluate_ok l k n set hidden f w.first w.left_valid sets.0 spelled.1 hides met.0 s g)
+        (λ v h. evaluate_ok m k (n ++ test_names l) set hidden f1 w.second w.right_valid sets.1 spelled.2 hides met.1 v h)
+    evaluate_ok (binary p op.Divide q l m) k n set hidden f t valid sets spelled hides met s g =
         let w = valid_binary S k n p op.Divide q l m t valid in
         let f1 = behind_on u r (flow_of u r hidden l) f in
-        both_ok op.Divide p q l m k n set f f1 (behind_on u r (flow_of u r hidden m) f1) t w.first w.second s refl written.0 w.types
+        both_ok op.Divide p q l m k n set f f1 (behind_on u r (flow_of u r hidden m) f1) t w.first w.second s refl spelled.0 w.types
         w.left_valid w.right_valid
-        (evaluate_ok l k n set hidden f w.first w.left_valid sets.0 written.1 hides met.0 s g)
-        (λ v h. evaluate_ok m k (n ++ test_names l) set hidden f1 w.second w.right_valid sets.1 written.2 hides met.1 v h)
-    evaluate_ok (binary p op.Modulo q l m) k n set hidden f t valid sets written hides met s g =
+        (evaluate_ok l k n set hidden f w.first w.left_valid sets.0 spelled.1 hides met.0 s g)
+        (λ v h. evaluate_ok m k (n ++ test_names l) set hidden f1 w.second w.right_valid sets.1 spelled.2 hides met.1 v h)
+    evaluate_ok (binary p op.Modulo q l m) k n set hidden f t valid sets spelled hides met s g =
         let w = valid_binary S k n p op.Modulo q l m t valid in
         let f1 = behind_on u r (flow_of u r hidden l) f in
-        both_ok op.Modulo p q l m k n set f f1 (behind_on u r (flow_of u r hidden m) f1) t w.first w.second s refl written.0 w.types
+        both_ok op.Modulo p q l m k n set f f1 (behind_on u r (flow_of u r hidden m) f1) t w.first w.second s refl spelled.0 w.types
         w.left_valid w.right_valid
-        (evaluate_ok l k n set hidden f w.first w.left_valid sets.0 written.1 hides met.0 s g)
-        (λ v h. evaluate_ok m k (n ++ test_names l) set hidden f1 w.second w.right_valid sets.1 written.2 hides met.1 v h)
-    evaluate_ok (binary p op.Power q l m) k n set hidden f t valid sets written hides met s g =
+        (evaluate_ok l k n set hidden f w.first w.left_valid sets.0 spelled.1 hides met.0 s g)
+        (λ v h. evaluate_ok m k (n ++ test_names l) set hidden f1 w.second w.right_valid sets.1 spelled.2 hides met.1 v h)
+    evaluate_ok (binary p op.Power q l m) k n set hidden f t valid sets spelled hides met s g =
         let w = valid_binary S k n p op.Power q l m t valid in
         let f1 = behind_on u r (flow_of u r hidden l) f in
-        both_ok op.Power p q l m k n set f f1 (behind_on u r (flow_of u r hidden m) f1) t w.first w.second s refl written.0 w.types
+        both_ok op.Power p q l m k n set f f1 (behind_on u r (flow_of u r hidden m) f1) t w.first w.second s refl spelled.0 w.types
         w.left_valid w.right_valid
-        (evaluate_ok l k n set hidden f w.first w.left_valid sets.0 written.1 hides met.0 s g)
-        (λ v h. evaluate_ok m k (n ++ test_names l) set hidden f1 w.second w.right_valid sets.1 written.2 hides met.1 v h)
-    evaluate_ok (binary p op.Equal q l m) k n set hidden f t valid sets written hides met s g =
+        (evaluate_ok l k n set hidden f w.first w.left_valid sets.0 spelled.1 hides met.0 s g)
+        (λ v h. evaluate_ok m k (n ++ test_names l) set hidden f1 w.second w.right_valid sets.1 spelled.2 hides met.1 v h)
+    evaluate_ok (binary p op.Equal q l m) k n set hidden f t valid sets spelled hides met s g =
         let w = valid_binary S k n p op.Equal q l m t valid in
         let f1 = behind_on u r (flow_of u r hidden l) f in
-        both_ok op.Equal p q l m k n set f f1 (behind_on u r (flow_of u r hidden m) f1) t w.first w.second s refl written.0 w.types
+        both_ok op.Equal p q l m k n set f f1 (behind_on u r (flow_of u r hidden m) f1) t w.first w.second s refl spelled.0 w.types
         w.left_valid w.right_valid
-        (evaluate_ok l k n set hidden f w.first w.left_valid sets.0 written.1 hides met.0 s g)
-        (λ v h. evaluate_ok m k (n ++ test_names l) set hidden f1 w.second w.right_valid sets.1 written.2 hides met.1 v h)
-    evaluate_ok (binary p op.NotEqual q l m) k n set hidden f t valid sets written hides met s g =
+        (evaluate_ok l k n set hidden f w.first w.left_valid sets.0 spelled.1 hides met.0 s g)
+        (λ v h. evaluate_ok m k (n ++ test_names l) set hidden f1 w.second w.right_valid sets.1 spelled.2 hides met.1 v h)
+    evaluate_ok (binary p op.NotEqual q l m) k n set hidden f t valid sets spelled hides met s g =
         let w = valid_binary S k n p op.NotEqual q l m t valid in
         let f1 = behind_on u r (flow_of u r hidden l) f in
-        both_ok op.NotEqual p q l m k n set f f1 (behind_on u r (flow_of u r hidden m) f1) t w.first w.second s refl written.0 w.types
+        both_ok op.NotEqual p q l m k n set f f1 (behind_on u r (flow_of u r hidden m) f1) t w.first w.second s refl spelled.0 w.types
         w.left_valid w.right_valid
-        (evaluate_ok l k n set hidden f w.first w.left_valid sets.0 written.1 hides met.0 s g)
-        (λ v h. evaluate_ok m k (n ++ test_names l) set hidden f1 w.second w.right_valid sets.1 written.2 hides met.1 v h)
-    evaluate_ok (binary p op.Less q l m) k n set hidden f t valid sets written hides met s g =
+        (evaluate_ok l k n set hidden f w.first w.left_valid sets.0 spelled.1 hides met.0 s g)
+        (λ v h. evaluate_ok m k (n ++ test_names l) set hidden f1 w.second w.right_valid sets.1 spelled.2 hides met.1 v h)
+    evaluate_ok (binary p op.Less q l m) k n set hidden f t valid sets spelled hides met s g =
         let w = valid_binary S k n p op.Less q l m t valid in
         let f1 = behind_on u r (flow_of u r hidden l) f in
-        both_ok op.Less p q l m k n set f f1 (behind_on u r (flow_of u r hidden m) f1) t w.first w.second s refl written.0 w.types
+        both_ok op.Less p q l m k n set f f1 (behind_on u r (flow_of u r hidden m) f1) t w.first w.second s refl spelled.0 w.types
         w.left_valid w.right_valid
-        (evaluate_ok l k n set hidden f w.first w.left_valid sets.0 written.1 hides met.0 s g)
-        (λ v h. evaluate_ok m k (n ++ test_names l) set hidden f1 w.second w.right_valid sets.1 written.2 hides met.1 v h)
-    evaluate_ok (binary p op.Greater q l m) k n set hidden f t valid sets written hides met s g =
+        (evaluate_ok l k n set hidden f w.first w.left_valid sets.0 spelled.1 hides met.0 s g)
+        (λ v h. evaluate_ok m k (n ++ test_names l) set hidden f1 w.second w.right_valid sets.1 spelled.2 hides met.1 v h)
+    evaluate_ok (binary p op.Greater q l m) k n set hidden f t valid sets spelled hides met s g =
         let w = valid_binary S k n p op.Greater q l m t valid in
         let f1 = behind_on u r (flow_of u r hidden l) f in
-        both_ok op.Greater p q l m k n set f f1 (behind_on u r (flow_of u r hidden m) f1) t w.first w.second s refl written.0 w.types
+        both_ok op.Greater p q l m k n set f f1 (behind_on u r (flow_of u r hidden m) f1) t w.first w.second s refl spelled.0 w.types
         w.left_valid w.right_valid
-        (evaluate_ok l k n set hidden f w.first w.left_valid sets.0 written.1 hides met.0 s g)
-        (λ v h. evaluate_ok m k (n ++ test_names l) set hidden f1 w.second w.right_valid sets.1 written.2 hides met.1 v h)
-    evaluate_ok (binary p op.LessEqual q l m) k n set hidden f t valid sets written hides met s g =
+        (evaluate_ok l k n set hidden f w.first w.left_valid sets.0 spelled.1 hides met.0 s g)
+        (λ v h. evaluate_ok m k (n ++ test_names l) set hidden f1 w.second w.right_valid sets.1 spelled.2 hides met.1 v h)
+    evaluate_ok (binary p op.LessEqual q l m) k n set hidden f t valid sets spelled hides met s g =
         let w = valid_binary S k n p op.LessEqual q l m t valid in
         let f1 = behind_on u r (flow_of u r hidden l) f in
-        both_ok op.LessEqual p q l m k n set f f1 (behind_on u r (flow_of u r hidden m) f1) t w.first w.second s refl written.0 w.types
+        both_ok op.LessEqual p q l m k n set f f1 (behind_on u r (flow_of u r hidden m) f1) t w.first w.second s refl spelled.0 w.types
         w.left_valid w.right_valid
-        (evaluate_ok l k n set hidden f w.first w.left_valid sets.0 written.1 hides met.0 s g)
-        (λ v h. evaluate_ok m k (n ++ test_names l) set hidden f1 w.second w.right_valid sets.1 written.2 hides met.1 v h)
-    evaluate_ok (binary p op.GreaterEqual q l m) k n set hidden f t valid sets written hides met s g =
+        (evaluate_ok l k n set hidden f w.first w.left_valid sets.0 spelled.1 hides met.0 s g)
+        (λ v h. evaluate_ok m k (n ++ test_names l) set hidden f1 w.second w.right_valid sets.1 spelled.2 hides met.1 v h)
+    evaluate_ok (binary p op.GreaterEqual q l m) k n set hidden f t valid sets spelled hides met s g =
         let w = valid_binary S k n p op.GreaterEqual q l m t valid in
         let f1 = behind_on u r (flow_of u r hidden l) f in
-        both_ok op.GreaterEqual p q l m k n set f f1 (behind_on u r (flow_of u r hidden m) f1) t w.first w.second s refl written.0 w.types
+        both_ok op.GreaterEqual p q l m k n set f f1 (behind_on u r (flow_of u r hidden m) f1) t w.first w.second s refl spelled.0 w.types
         w.left_valid w.right_valid
-        (evaluate_ok l k n set hidden f w.first w.left_valid sets.0 written.1 hides met.0 s g)
-        (λ v h. evaluate_ok m k (n ++ test_names l) set hidden f1 w.second w.right_valid sets.1 written.2 hides met.1 v h)
-    evaluate_ok (binary p op.And q l m) k n set hidden f t valid sets written hides met s g =
+        (evaluate_ok l k n set hidden f w.first w.left_valid sets.0 spelled.1 hides met.0 s g)
+        (λ v h. evaluate_ok m k (n ++ test_names l) set hidden f1 w.second w.right_valid sets.1 spelled.2 hides met.1 v h)
+    evaluate_ok (binary p op.And q l m) k n set hidden f t valid sets spelled hides met s g =
         let w = valid_binary S k n p op.And q l m t valid in
         let f1 = behind_on u r (flow_of u r hidden l) f in
-        both_ok op.And p q l m k n set f f1 (behind_on u r (flow_of u r hidden m) f1) t w.first w.second s refl written.0 w.types
+        both_ok op.And p q l m k n set f f1 (behind_on u r (flow_of u r hidden m) f1) t w.first w.second s refl spelled.0 w.types
         w.left_valid w.right_valid
-        (evaluate_ok l k n set hidden f w.first w.left_valid sets.0 written.1 hides met.0 s g)
-        (λ v h. evaluate_ok m k (n ++ test_names l) set hidden f1 w.second w.right_valid sets.1 written.2 hides met.1 v h)
-    evaluate_ok (binary p op.Or q l m) k n set hidden f t valid sets written hides met s g =
+        (evaluate_ok l k n set hidden f w.first w.left_valid sets.0 spelled.1 hides met.0 s g)
+        (λ v h. evaluate_ok m k (n ++ test_names l) set hidden f1 w.second w.right_valid sets.1 spelled.2 hides met.1 v h)
+    evaluate_ok (binary p op.Or q l m) k n set hidden f t valid sets spelled hides met s g =
         let w = valid_binary S k n p op.Or q l m t valid in
         let f1 = behind_on u r (flow_of u r hidden l) f in
-        both_ok op.Or p q l m k n set f f1 (behind_on u r (flow_of u r hidden m) f1) t w.first w.second s refl written.0 w.types
+        both_ok op.Or p q l m k n set f f1 (behind_on u r (flow_of u r hidden m) f1) t w.first w.second s refl spelled.0 w.types
         w.left_valid w.right_valid
-        (evaluate_ok l k n set hidden f w.first w.left_valid sets.0 written.1 hides met.0 s g)
-        (λ v h. evaluate_ok m k (n ++ test_names l) set hidden f1 w.second w.right_valid sets.1 written.2 hides met.1 v h)
-    evaluate_ok (binary p op.Xor q l m) k n set hidden f t valid sets written hides met s g =
+        (evaluate_ok l k n set hidden f w.first w.left_valid sets.0 spelled.1 hides met.0 s g)
+        (λ v h. evaluate_ok m k (n ++ test_names l) set hidden f1 w.second w.right_valid sets.1 spelled.2 hides met.1 v h)
+    evaluate_ok (binary p op.Xor q l m) k n set hidden f t valid sets spelled hides met s g =
         let w = valid_binary S k n p op.Xor q l m t valid in
         let f1 = behind_on u r (flow_of u r hidden l) f in
-        both_ok op.Xor p q l m k n set f f1 (behind_on u r (flow_of u r hidden m) f1) t w.first w.second s refl written.0 w.types
+        both_ok op.Xor p q l m k n set f f1 (behind_on u r (flow_of u r hidden m) f1) t w.first w.second s refl spelled.0 w.types
         w.left_valid w.right_valid
-        (evaluate_ok l k n set hidden f w.first w.left_valid sets.0 written.1 hides met.0 s g)
-        (λ v h. evaluate_ok m k (n ++ test_names l) set hidden f1 w.second w.right_valid sets.1 written.2 hides met.1 v h)
+        (evaluate_ok l k n set hidden f w.first w.left_valid sets.0 spelled.1 hides met.0 s g)
+        (λ v h. evaluate_ok m k (n ++ test_names l) set hidden f1 w.second w.right_valid sets.1 spelled.2 hides met.1 v h)
 
     pub arguments_ok : (es : Exs) → ArgumentsKeep es
-    arguments_ok no_exs k n set hidden f given valid sets written hides met s g = record {
+    arguments_ok no_exs k n set hidden f given valid sets spelled hides met s g = record {
       later = later_same [] s;
       good = g;
       fit = subst (λ a. AllFit system (heap_of s) (map (closed r) (types_of a)) []) (sym (none_given S k n given valid)) tt;
     }
-    arguments_ok (and_ex e es) k n set hidden f given valid sets written hides met s g =
+    arguments_ok (and_ex e es) k n set hidden f given valid sets spelled hides met s g =
         let w = more_given S k n e es given valid in
         let f1 = behind_on u r (flow_of u r hidden e) f in
         let f2 = behind_on u r (flow_of_all u r hidden es) f1 in
         chain (evaluate c e >>= need) (λ z. evaluate_all c es >>= (λ vs. give (z.value ∷ vs))) s _ _
-        (valued k n set f1 e w.type s (evaluate_ok e k n set hidden f w.type w.first_valid sets.0 written.0 hides met.0 s g))
+        (valued k n set f1 e w.type s (evaluate_ok e k n set hidden f w.type w.first_valid sets.0 spelled.0 hides met.0 s g))
         (λ v z ev. chain (evaluate_all c es) (λ vs. give (z.value ∷ vs)) v _ _
-        (arguments_ok es k (n ++ test_names e) set hidden f1 w.rest w.rest_valid sets.1 written.1 hides met.1 v ev.good)
+        (arguments_ok es k (n ++ test_names e) set hidden f1 w.rest w.rest_valid sets.1 spelled.1 hides met.1 v ev.good)
         (λ y vs a. record {
           later = later_on (test_names e) (test_names_in es) s v y ev.later a.later;
           good = a.good;
