@@ -211,6 +211,18 @@ module _ (u : List ClassT) (laws : UniverseLaws u) (r : Running u) (lawful : IsW
   abbrev Dropped : List Fact → List (List ℕ) → FieldSet → State → State → Option Seen → Type 0
   Dropped k set f s v o = Grow (heap_of s) (heap_of v) × Good u r k set f v
 
+  -- what is no call has a value, which is dropped
+  dropped_ok : (e : Ex) (k : List Fact) (set hidden : List (List ℕ)) (f : FieldSet) → ValidExpression S k set e
+      → IsWritten (IsTypeOfText u r) e → HidesNone u r hidden → MetOn u r (flow_of u r hidden e) f
+      → (s : State) → Good u r k set f s
+      → Safe (evaluate c e s) (Dropped k set (behind_on u r (flow_of u r hidden e) f) s)
+  dropped_ok e k set hidden f valid spelled hides met s g =
+      safe_more (evaluate c e s)
+      (Evaluated u r k [] set (behind_on u r (flow_of u r hidden e) f) e valid.type s)
+      (Dropped k set (behind_on u r (flow_of u r hidden e) f) s)
+      (λ v o ev. (ev.later.grown, ev.good))
+      (evaluate_ok u laws r lawful e k [] set hidden f valid.type valid.valid valid.reads spelled hides met s g)
+
   statement_ok : (e : Ex) (k : List Fact) (set hidden : List (List ℕ)) (f : FieldSet) → ValidStatement S k set e
       → IsWritten (IsTypeOfText u r) e → HidesNone u r hidden → MetOn u r (flow_of u r hidden e) f
       → (s : State) → Good u r k set f s
@@ -257,9 +269,7 @@ module _ (u : List ClassT) (laws : UniverseLaws u) (r : Running u) (lawful : IsW
       good_extends u r k set f2 y l a.good h.0))
       (target_ok u laws r y a.good.heap w.target z x.name w.given None w.signed vs w.target_attached w.found w.called
       w.result_is (shows_grown u r (heap_of v) (heap_of y) w.target z a.later.grown ev.gives) a.fit)))
-  statement_ok e k set hidden f valid written hides met s g =
-      safe_more (evaluate c e s) _ _ (λ v o ev. (ev.later.grown, ev.good))
-      (evaluate_ok u laws r lawful e k [] set hidden f valid.type valid.valid valid.reads written hides met s g)
+  statement_ok e k set hidden f valid written hides met s g = dropped_ok e k set hidden f valid written hides met s g
 
   -- ---- creations
 
