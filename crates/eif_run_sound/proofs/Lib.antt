@@ -1,0 +1,17 @@
+pub mod States
+pub mod Flows
+pub mod Entities
+pub mod Known
+pub mod Types
+pub mod Declarations
+pub mod Calls
+pub mod Names
+pub mod Targets
+pub mod Creations
+pub mod Tests
+pub mod Operands
+pub mod Expressions
+pub mod Assigned
+pub mod Instructions
+pub mod Levels
+pub mod Runs

@@ -1,0 +1,8 @@
+pub mod Fields
+pub mod Bodies
+pub mod Invariant
+pub mod WrittenTexts
+pub mod UniverseLaws
+pub mod ExpressionRuns
+pub mod InstructionRuns
+pub mod Soundness
