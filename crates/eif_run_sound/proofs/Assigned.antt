@@ -152,12 +152,14 @@ module _ (u : List ClassT) (laws : UniverseLaws u) (r : Running u) (lawful : IsW
       by : (a d : Bool) → is_local S x ≡ a → b ≡ d
           → Held u r (if a && d then attached x ∷ [] else []) s
           × ((y : List ℕ) → usable_test (if a && d then attached x ∷ [] else []) y ≡ None)
-      by true true i j =
-          (record {
-            attached = λ y e v is. or_cases (bytes_eq x y) false e
-                (λ q. h i j v (ap (held_in u r s) (same_name x y q) ∙ is)) (λ q. cc);
-            usable = λ y w t e is. cc;
-          }, λ y. refl)
+      by true true i j = (
+        record {
+          attached = λ y e v is. or_cases (bytes_eq x y) false e
+              (λ q. h i j v (ap (held_in u r s) (same_name x y q) ∙ is)) (λ q. cc);
+          usable = λ y w t e is. cc;
+        },
+        λ y. refl,
+      )
       by true false i j = (held_none u r s, λ y. refl)
       by false d i j = (held_none u r s, λ y. refl)
 
@@ -207,24 +209,26 @@ module _ (u : List ClassT) (laws : UniverseLaws u) (r : Running u) (lawful : IsW
     result_set a is type name =
         let w = record s { result = Some v } in
         let none = subst (λ n. signature u (line_of u class_of_text) n ≡ None) (sym name) (laws.features.no_result class_of_text) in
-        let no_local = is_local_none x.name (subst (λ n. entity r.declaration.tree n ≡ None) (sym name) lawful.no_result) in
-        (grow_same (heap_of s), idle_fields w none record {
-          heap = g.heap;
-          object = g.object;
-          there = g.there;
-          made = g.made;
-          ready = g.ready;
-          arguments = g.arguments;
-          locals = g.locals;
-          locals_set = λ y b e sure. by_name y b e (bytes_eq y x.name) refl sure;
-          result = λ b e z i. subst (Fits system (heap_of s) (closed r (written u r b))) (some_is i)
-              (subst (λ t. Fits system (heap_of s) (closed r t) v) (sym type ∙ ap (written u r) (some_is (sym is ∙ e))) fits);
-          result_set = λ b e sure. tt;
-          tests = g.tests;
-          known = after_held k x.name known w (held_fewer u r (without S (x.name ∷ []) k) k w (less k x.name)
-              (record { attached = g.known.attached; usable = g.known.usable }))
-              (λ i j z e. let q : true ≡ false = sym i ∙ no_local in cc);
-        })
+        let no_local = is_local_none x.name (subst (λ n. entity r.declaration.tree n ≡ None) (sym name) lawful.no_result) in (
+          grow_same (heap_of s),
+          idle_fields w none record {
+            heap = g.heap;
+            object = g.object;
+            there = g.there;
+            made = g.made;
+            ready = g.ready;
+            arguments = g.arguments;
+            locals = g.locals;
+            locals_set = λ y b e sure. by_name y b e (bytes_eq y x.name) refl sure;
+            result = λ b e z i. subst (Fits system (heap_of s) (closed r (written u r b))) (some_is i)
+                (subst (λ t. Fits system (heap_of s) (closed r t) v) (sym type ∙ ap (written u r) (some_is (sym is ∙ e))) fits);
+            result_set = λ b e sure. tt;
+            tests = g.tests;
+            known = after_held k x.name known w (held_fewer u r (without S (x.name ∷ []) k) k w (less k x.name)
+                (record { attached = g.known.attached; usable = g.known.usable }))
+                (λ i j z e. let q : true ≡ false = sym i ∙ no_local in cc);
+          },
+        )
       where
         is_local_none : (y : List ℕ) → entity r.declaration.tree y ≡ None → is_local S y ≡ false
         is_local_none y e =
@@ -246,21 +250,23 @@ module _ (u : List ClassT) (laws : UniverseLaws u) (r : Running u) (lawful : IsW
         → is_local S x.name ≡ true
         → IsSetIn (record s { local = set_at x.name (Some v) s.local })
     local_set a is type none no_result is_one =
-        let w = record s { local = set_at x.name (Some v) s.local } in
-        (grow_same (heap_of s), idle_fields w none record {
-          heap = g.heap;
-          object = g.object;
-          there = g.there;
-          made = g.made;
-          ready = g.ready;
-          arguments = g.arguments;
-          locals = λ y b e z i. value_of y b e (bytes_eq y x.name) refl z i;
-          locals_set = λ y b e sure. sure_of y b e (bytes_eq y x.name) refl sure;
-          result = g.result;
-          result_set = λ b e sure. g.result_set b e (other_set set x.name result_name (written u r b) no_result sure);
-          tests = g.tests;
-          known = after_held k x.name known w kept (λ i j z e. subst (λ z. is_void z ≡ false) (some_is (sym (own refl) ∙ e)) (something j));
-        })
+        let w = record s { local = set_at x.name (Some v) s.local } in (
+          grow_same (heap_of s),
+          idle_fields w none record {
+            heap = g.heap;
+            object = g.object;
+            there = g.there;
+            made = g.made;
+            ready = g.ready;
+            arguments = g.arguments;
+            locals = λ y b e z i. value_of y b e (bytes_eq y x.name) refl z i;
+            locals_set = λ y b e sure. sure_of y b e (bytes_eq y x.name) refl sure;
+            result = g.result;
+            result_set = λ b e sure. g.result_set b e (other_set set x.name result_name (written u r b) no_result sure);
+            tests = g.tests;
+            known = after_held k x.name known w kept (λ i j z e. subst (λ z. is_void z ≡ false) (some_is (sym (own refl) ∙ e)) (something j));
+          },
+        )
       where
         -- what the local holds
         own : bytes_eq x.name x.name ≡ bytes_eq x.name x.name → held_in u r (record s { local = set_at x.name (Some v) s.local }) x.name ≡ Some v
@@ -411,11 +417,13 @@ module _ (u : List ClassT) (laws : UniverseLaws u) (r : Running u) (lawful : IsW
           (λ y z e. let p = g.tests y z e in (fits_grown system (heap_of s) h (closed r z.type) z.value grown p.0, p.1))
           (held_later u r k [] s w g.known later (λ y z e. refl)) in
           let same : good.object ≡ object =
-          some_is (sym good.there ∙ (ap (object_of h) is ∙ get_written (heap_of s) q g.object object at)) in
-          (grown, more_set w good
-          (after_held k x.name known w (held_fewer u r (without S (x.name ∷ []) k) k w (less k x.name) good.known)
-          (λ i j z e. let b : true ≡ false = sym i ∙ no_local in cc))
-          good (subst (Ready u (behind_on u r (sets n) f)) (sym same) object_ready))
+          some_is (sym good.there ∙ (ap (object_of h) is ∙ get_written (heap_of s) q g.object object at)) in (
+            grown,
+            more_set w good
+                (after_held k x.name known w (held_fewer u r (without S (x.name ∷ []) k) k w (less k x.name) good.known)
+                (λ i j z e. let b : true ≡ false = sym i ∙ no_local in cc))
+                good (subst (Ready u (behind_on u r (sets n) f)) (sym same) object_ready),
+          )
 
       field_set : Safe (set_field c x.name v s) SetEnds
       field_set =

@@ -98,8 +98,13 @@ module _ (u : List ClassT) (laws : UniverseLaws u) (r : Running u) where
         safe_after (run_declaration system r.again v y vs s.store) (λ t a. done (record s { store = t }) a)
         (Leaves u (heap_of s) v y w.actuals f w.routine.text) _
         (declaration_ok u r.again r.runs s.store heap v o there ty is y args result vs f w fit ready met)
-        (λ t a l. ((record { rest = refl; grown = l.grown; heap = l.heap },
-        answers_fit u laws t.heap _ result a w.result_fits l.answers), l.ready))
+        (λ t a l. (
+          (
+            record { rest = refl; grown = l.grown; heap = l.heap },
+            answers_fit u laws t.heap _ result a w.result_fits l.answers,
+          ),
+          l.ready,
+        ))
 
     -- ---- fields
 
@@ -113,11 +118,12 @@ module _ (u : List ClassT) (laws : UniverseLaws u) (r : Running u) where
         let h = field_held system (heap_of s) v o n x.0 heap there x.1 in
         let t : h.0 ≡ w.type =
         some_is (sym h.1 ∙ (ap (λ (t : ClassType). field_type system t.class_number n) is ∙ w.field)) in
-        subst (λ o. Safe (some_or unset o (λ v. give (Some v)) s) (Called result s)) (sym x.1)
-        (extends_same system s heap,
-        answers_fit u laws (heap_of s) (Some (put_in ty.actuals w.type)) result (Some x.0) w.result_fits
-        (subst (λ (t : ClassType). Fits system (heap_of s) (put_in t.actuals w.type) x.0) is
-        (subst (λ t. Fits system (heap_of s) (put_in o.made.actuals t) x.0) t h.2)))
+        subst (λ o. Safe (some_or unset o (λ v. give (Some v)) s) (Called result s)) (sym x.1) (
+          extends_same system s heap,
+          answers_fit u laws (heap_of s) (Some (put_in ty.actuals w.type)) result (Some x.0) w.result_fits
+              (subst (λ (t : ClassType). Fits system (heap_of s) (put_in t.actuals w.type) x.0) is
+              (subst (λ t. Fits system (heap_of s) (put_in o.made.actuals t) x.0) t h.2)),
+        )
 
     -- ---- features
 

@@ -60,13 +60,21 @@ module _ (u : List ClassT) (c : ClassT) where
       let more = entities_of u c b gs in
       let e = ap (λ l. first_of l x) (append_assoc (map (entity_at b t) g.names) more rest) in
       ⊎_elim
-      (λ p. inl (g.type_tree, ap (λ h. option_map (λ g. g.type_tree) (cond h (Some g) (find (λ g. has_name g.names x) gs))) p.0,
-      subst (IsFound b t) (sym e) p.1))
+      (λ p. inl (
+        g.type_tree,
+        ap (λ h. option_map (λ g. g.type_tree) (cond h (Some g) (find (λ g. has_name g.names x) gs))) p.0,
+        subst (IsFound b t) (sym e) p.1,
+      ))
       (λ p. ⊎_elim
-      (λ q. inl (q.0, ap (λ h. option_map (λ g. g.type_tree) (cond h (Some g) (find (λ g. has_name g.names x) gs))) p.0 ∙ q.1,
-      subst (IsFound b (resolved u c q.0)) (sym (e ∙ p.1)) q.2))
-      (λ q. inr (ap (λ h. option_map (λ g. g.type_tree) (cond h (Some g) (find (λ g. has_name g.names x) gs))) p.0 ∙ q.0,
-      e ∙ (p.1 ∙ q.1)))
+      (λ q. inl (
+        q.0,
+        ap (λ h. option_map (λ g. g.type_tree) (cond h (Some g) (find (λ g. has_name g.names x) gs))) p.0 ∙ q.1,
+        subst (IsFound b (resolved u c q.0)) (sym (e ∙ p.1)) q.2,
+      ))
+      (λ q. inr (
+        ap (λ h. option_map (λ g. g.type_tree) (cond h (Some g) (find (λ g. has_name g.names x) gs))) p.0 ∙ q.0,
+        e ∙ (p.1 ∙ q.1),
+      ))
       (in_groups b gs x rest))
       (in_group b t g.names x (more ++ rest))
 
@@ -90,8 +98,11 @@ module _ (u : List ClassT) (c : ClassT) where
       (λ p. inl (p.0, ap (λ o. entity_by o locals) p.1, p.2))
       (λ p. let e = ap (λ l. first_of l x) (sym (append_none (locals_of u c d))) in
       ⊎_elim
-      (λ q. inr (inl (q.0, ap (λ o. entity_by o locals) p.0 ∙ ap (entity_by None) q.1,
-      subst (IsFound true (resolved u c q.0)) (sym (p.1 ∙ e)) q.2)))
+      (λ q. inr (inl (
+        q.0,
+        ap (λ o. entity_by o locals) p.0 ∙ ap (entity_by None) q.1,
+        subst (IsFound true (resolved u c q.0)) (sym (p.1 ∙ e)) q.2,
+      )))
       (λ q. inr (inr (ap (λ o. entity_by o locals) p.0 ∙ ap (entity_by None) q.0, p.1 ∙ (e ∙ q.1))))
       (in_groups true (local_groups d.kind) x []))
       (in_groups false d.arguments x (locals_of u c d))

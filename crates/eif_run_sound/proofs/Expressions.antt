@@ -220,13 +220,14 @@ module _ (u : List ClassT) (laws : UniverseLaws u) (r : Running u) (lawful : IsW
       (own_body_ok u laws r k set f s g a.version p (all_closed r.actuals e.signature.arguments)
       (maybe_closed r.actuals e.signature.result) vs a.serves args_fit (subst (λ m. MetOn u r m f) flow met))
       (λ v b h.
-      let good = good_extends u r k set f s v g h.0.0 in
-      (later_extends system [] s v h.0.0,
-      subst (λ m. Good u r k set (behind_on u r m f) v) (sym flow)
-      (good_ready u r k set f (behind_on u r (calls p a.version) f) v good (h.1 good.object good.there)),
-      subst (λ t. Gives u r (heap_of v) t (seen_as e.signature.result b)) (w.result_is)
-      (subst (λ t. Gives u r (heap_of v) t (seen_as t b)) (as_it_is e.signature.result)
-      (answers_seen u laws r (heap_of v) r.actuals (λ t. t) (λ t. refl) e.signature.result b h.0.1)))))
+      let good = good_extends u r k set f s v g h.0.0 in (
+        later_extends system [] s v h.0.0,
+        subst (λ m. Good u r k set (behind_on u r m f) v) (sym flow)
+            (good_ready u r k set f (behind_on u r (calls p a.version) f) v good (h.1 good.object good.there)),
+        subst (λ t. Gives u r (heap_of v) t (seen_as e.signature.result b)) (w.result_is)
+            (subst (λ t. Gives u r (heap_of v) t (seen_as t b)) (as_it_is e.signature.result)
+            (answers_seen u laws r (heap_of v) r.actuals (λ t. t) (λ t. refl) e.signature.result b h.0.1)),
+      )))
 
   -- ---- operators
 
@@ -309,9 +310,10 @@ module _ (u : List ClassT) (laws : UniverseLaws u) (r : Running u) (lawful : IsW
 
     fit_both : (z : TyT) → closed r z ≡ z → AreBoth S z a b
         → laws_of.BothFit system (heap_of v) z x.value y.value
-    fit_both z e h =
-        (subst (λ t. Fits system (heap_of v) t x.value) e (fits_in u laws r (heap_of v) a z x.value h.0 both.first.fits),
-        subst (λ t. Fits system (heap_of v) t y.value) e (fits_in u laws r (heap_of v) b z y.value h.1 both.second.fits))
+    fit_both z e h = (
+      subst (λ t. Fits system (heap_of v) t x.value) e (fits_in u laws r (heap_of v) a z x.value h.0 both.first.fits),
+      subst (λ t. Fits system (heap_of v) t y.value) e (fits_in u laws r (heap_of v) b z y.value h.1 both.second.fits),
+    )
 
     -- an operator that tells nothing
     op_plain : (o : Op) (t z : TyT) → t ≡ z → closed r z ≡ z → ((i : Bool) → facts S k n i (binary p o q left right) ≡ [])
@@ -400,7 +402,6 @@ module _ (u : List ClassT) (laws : UniverseLaws u) (r : Running u) (lawful : IsW
         go false e =
             truth_given k n set f (binary p op.NotEqual q left right) t s v true both.later both.good is (differ_told e) refl refl
 
-
     -- where both operands are evaluated
     strict_ok : (o : Op) (t : TyT) → asks_right o ≡ None → IsBinary o → Operands S o a b t → Ops o t
     strict_ok op.Plus t e w (inl h) = op_plain op.Plus t string_type h.1 refl (λ i. refl) (inl (fit_both string_type refl h.0, refl))
@@ -474,11 +475,12 @@ module _ (u : List ClassT) (laws : UniverseLaws u) (r : Running u) (lawful : IsW
         → Evaluated u r (with_left i) (n ++ test_names left) set g right b v w (Some y)
         → Good u r k set f w × Held u r (facts S k n i left) w
     right_done i w y second =
-        let apart = told_apart S k n i left a of_left in
-        (fewer_fields g w
-        (good_known u r (with_left i) k set g w second.good
-        (held_fewer u r k (with_left i) w (fewer_append k (facts S k n i left) apart) second.good.known)) keeps,
-        held_fewer u r (facts S k n i left) (with_left i) w (fewer_right k (facts S k n i left) apart) second.good.known)
+        let apart = told_apart S k n i left a of_left in (
+          fewer_fields g w
+              (good_known u r (with_left i) k set g w second.good
+              (held_fewer u r k (with_left i) w (fewer_append k (facts S k n i left) apart) second.good.known)) keeps,
+          held_fewer u r (facts S k n i left) (with_left i) w (fewer_right k (facts S k n i left) apart) second.good.known,
+        )
 
     abbrev Ends : Op → TyT → State → Option Seen → Type 0
     Ends o t = Evaluated u r k n set f (binary p o q left right) t s
@@ -745,11 +747,14 @@ module _ (u : List ClassT) (laws : UniverseLaws u) (r : Running u) (lawful : IsW
         (valued k n set f1 l w.first s (evaluate_ok l k n set hidden f w.first w.left_valid sets.0 spelled.1 hides met.0 s g))
         (λ v z ev. and_then_ok k n set f1 f2 l m w.first w.second p q s v z w.left_valid ev
         (λ a i. stays_set (flow_of u r (usable_by_left op.AndThen l ++ hidden) m) f1 a i) t w.types.0 w.types.1
-        (λ i. (w.right_valid, valued (k ++ facts S k n true l) (n ++ test_names l) set f2 m w.second v
-        (evaluate_ok m (k ++ facts S k n true l) (n ++ test_names l) set (usable_by_left op.AndThen l ++ hidden) f1 w.second
-        w.right_valid sets.1 spelled.2 more met.1 v
-        (known_right k n set f1 f2 l m w.first w.second p q s v z w.left_valid ev
-        (λ a i. stays_set (flow_of u r (usable_by_left op.AndThen l ++ hidden) m) f1 a i) true i)))))
+        (λ i. (
+          w.right_valid,
+          valued (k ++ facts S k n true l) (n ++ test_names l) set f2 m w.second v
+              (evaluate_ok m (k ++ facts S k n true l) (n ++ test_names l) set (usable_by_left op.AndThen l ++ hidden) f1 w.second
+              w.right_valid sets.1 spelled.2 more met.1 v
+              (known_right k n set f1 f2 l m w.first w.second p q s v z w.left_valid ev
+              (λ a i. stays_set (flow_of u r (usable_by_left op.AndThen l ++ hidden) m) f1 a i) true i)),
+        )))
     evaluate_ok (binary p op.OrElse q l m) k n set hidden f t valid sets spelled hides met s g =
         let w = valid_binary S k n p op.OrElse q l m t valid in
         let f1 = behind_on u r (flow_of u r hidden l) f in
@@ -759,11 +764,14 @@ module _ (u : List ClassT) (laws : UniverseLaws u) (r : Running u) (lawful : IsW
         (valued k n set f1 l w.first s (evaluate_ok l k n set hidden f w.first w.left_valid sets.0 spelled.1 hides met.0 s g))
         (λ v z ev. or_else_ok k n set f1 f2 l m w.first w.second p q s v z w.left_valid ev
         (λ a i. stays_set (flow_of u r (usable_by_left op.OrElse l ++ hidden) m) f1 a i) t w.types.0 w.types.1
-        (λ i. (w.right_valid, valued (k ++ facts S k n false l) (n ++ test_names l) set f2 m w.second v
-        (evaluate_ok m (k ++ facts S k n false l) (n ++ test_names l) set (usable_by_left op.OrElse l ++ hidden) f1 w.second
-        w.right_valid sets.1 spelled.2 more met.1 v
-        (known_right k n set f1 f2 l m w.first w.second p q s v z w.left_valid ev
-        (λ a i. stays_set (flow_of u r (usable_by_left op.OrElse l ++ hidden) m) f1 a i) false i)))))
+        (λ i. (
+          w.right_valid,
+          valued (k ++ facts S k n false l) (n ++ test_names l) set f2 m w.second v
+              (evaluate_ok m (k ++ facts S k n false l) (n ++ test_names l) set (usable_by_left op.OrElse l ++ hidden) f1 w.second
+              w.right_valid sets.1 spelled.2 more met.1 v
+              (known_right k n set f1 f2 l m w.first w.second p q s v z w.left_valid ev
+              (λ a i. stays_set (flow_of u r (usable_by_left op.OrElse l ++ hidden) m) f1 a i) false i)),
+        )))
     evaluate_ok (binary p op.Implies q l m) k n set hidden f t valid sets spelled hides met s g =
         let w = valid_binary S k n p op.Implies q l m t valid in
         let f1 = behind_on u r (flow_of u r hidden l) f in
@@ -773,11 +781,14 @@ module _ (u : List ClassT) (laws : UniverseLaws u) (r : Running u) (lawful : IsW
         (valued k n set f1 l w.first s (evaluate_ok l k n set hidden f w.first w.left_valid sets.0 spelled.1 hides met.0 s g))
         (λ v z ev. implies_ok k n set f1 f2 l m w.first w.second p q s v z w.left_valid ev
         (λ a i. stays_set (flow_of u r (usable_by_left op.Implies l ++ hidden) m) f1 a i) t w.types.0 w.types.1
-        (λ i. (w.right_valid, valued (k ++ facts S k n true l) (n ++ test_names l) set f2 m w.second v
-        (evaluate_ok m (k ++ facts S k n true l) (n ++ test_names l) set (usable_by_left op.Implies l ++ hidden) f1 w.second
-        w.right_valid sets.1 spelled.2 more met.1 v
-        (known_right k n set f1 f2 l m w.first w.second p q s v z w.left_valid ev
-        (λ a i. stays_set (flow_of u r (usable_by_left op.Implies l ++ hidden) m) f1 a i) true i)))))
+        (λ i. (
+          w.right_valid,
+          valued (k ++ facts S k n true l) (n ++ test_names l) set f2 m w.second v
+              (evaluate_ok m (k ++ facts S k n true l) (n ++ test_names l) set (usable_by_left op.Implies l ++ hidden) f1 w.second
+              w.right_valid sets.1 spelled.2 more met.1 v
+              (known_right k n set f1 f2 l m w.first w.second p q s v z w.left_valid ev
+              (λ a i. stays_set (flow_of u r (usable_by_left op.Implies l ++ hidden) m) f1 a i) true i)),
+        )))
     evaluate_ok (binary p op.Not q l m) k n set hidden f t valid sets spelled hides met s g = absurd spelled.0
     evaluate_ok (binary p op.Plus q l m) k n set hidden f t valid sets spelled hides met s g =
         let w = valid_binary S k n p op.Plus q l m t valid in

@@ -265,8 +265,10 @@ module _ (u : List ClassT) (laws : UniverseLaws u) (r : Running u) (lawful : IsW
       (λ v z ev. chain (evaluate_all c args) (call_on c z x.name) v _ _
       (arguments_ok u laws r lawful args k (test_names e) set hidden f1 w.given w.args_valid valid.1.1 written.1 hides met.1 v ev.good)
       (λ y vs a. safe_more (call_on c z x.name vs y) _ _
-      (λ l o h. (grow_on (heap_of s) (heap_of v) (heap_of l) ev.later.grown (grow_on (heap_of v) (heap_of y) (heap_of l) a.later.grown h.0.grown),
-      good_extends u r k set f2 y l a.good h.0))
+      (λ l o h. (
+        grow_on (heap_of s) (heap_of v) (heap_of l) ev.later.grown (grow_on (heap_of v) (heap_of y) (heap_of l) a.later.grown h.0.grown),
+        good_extends u r k set f2 y l a.good h.0,
+      ))
       (target_ok u laws r y a.good.heap w.target z x.name w.given None w.signed vs w.target_attached w.found w.called
       w.result_is (shows_grown u r (heap_of v) (heap_of y) w.target z a.later.grown ev.gives) a.fit)))
   statement_ok e k set hidden f valid written hides met s g = dropped_ok e k set hidden f valid written hides met s g
@@ -306,10 +308,11 @@ module _ (u : List ClassT) (laws : UniverseLaws u) (r : Running u) (lawful : IsW
     result_typed : (o : Option TypeT) → r.declaration.tree.result_type ≡ o → option_map (resolved u r.text) o ≡ Some t
         → (option_map (written_type c) o ≡ Some t) × IsTypeIn u class_of_text t
     result_typed None is e = cc
-    result_typed (Some a) is e =
-        (ap Some (written_is u laws r a) ∙ e,
-        subst (IsTypeIn u class_of_text) (some_is e)
-        (laws.bodies.locals_typed r.declaration (routine u laws r lawful) a (inr is)))
+    result_typed (Some a) is e = (
+      ap Some (written_is u laws r a) ∙ e,
+      subst (IsTypeIn u class_of_text) (some_is e)
+          (laws.bodies.locals_typed r.declaration (routine u laws r lawful) a (inr is)),
+    )
 
     not_bound : (DenotesNothing u r x → ⊥) → s.test x ≡ None
     not_bound n = by (s.test x) refl
@@ -331,20 +334,22 @@ module _ (u : List ClassT) (laws : UniverseLaws u) (r : Running u) (lawful : IsW
         sym h.0 ∙ (ap (λ (e : Entity). e.is_local) (sym (some_is (sym a.2.1 ∙ j))) ∙ a.2.3) in cc)
         (λ rest. ⊎_elim
         (λ a. let type : written u r a.0 ≡ t =
-        sym a.2.2 ∙ (ap (λ (e : Entity). e.type) (some_is (sym a.2.1 ∙ j)) ∙ h.1) in
-        (ap (λ o. bound_type o (entity_type c (entity r.declaration.tree x) x))
-        (not_bound (λ n. let q : None ≡ Some (local a.0) = sym n.entity_none ∙ a.1 in cc))
-        ∙ (ap (λ o. entity_type c o x) a.1 ∙ ap Some (written_is u laws r a.0 ∙ type)),
-        subst (IsTypeIn u class_of_text) type
-        (laws.bodies.locals_typed r.declaration (routine u laws r lawful) a.0 (inl (x, a.1)))))
+        sym a.2.2 ∙ (ap (λ (e : Entity). e.type) (some_is (sym a.2.1 ∙ j)) ∙ h.1) in (
+          ap (λ o. bound_type o (entity_type c (entity r.declaration.tree x) x))
+              (not_bound (λ n. let q : None ≡ Some (local a.0) = sym n.entity_none ∙ a.1 in cc))
+              ∙ (ap (λ o. entity_type c o x) a.1 ∙ ap Some (written_is u laws r a.0 ∙ type)),
+          subst (IsTypeIn u class_of_text) type
+              (laws.bodies.locals_typed r.declaration (routine u laws r lawful) a.0 (inl (x, a.1))),
+        ))
         (λ a. let q : None ≡ Some e = sym a.1 ∙ j in cc) rest)
         (entity_cases u r.text r.declaration.tree x)
-    variable_typed None None (Some sg) j l h =
-        (ap (λ o. bound_type o (entity_type c (entity r.declaration.tree x) x))
-        (not_bound (λ n. let q : None ≡ Some sg = sym n.feature_none ∙ l in cc))
-        ∙ (ap (λ o. entity_type c o x) (no_entity_of u laws r x j)
-        ∙ (ap (option_and_then (λ (g : Signature). g.result)) l ∙ h.1)),
-        laws.features.typed class_of_text x sg t l h.1)
+    variable_typed None None (Some sg) j l h = (
+      ap (λ o. bound_type o (entity_type c (entity r.declaration.tree x) x))
+          (not_bound (λ n. let q : None ≡ Some sg = sym n.feature_none ∙ l in cc))
+          ∙ (ap (λ o. entity_type c o x) (no_entity_of u laws r x j)
+          ∙ (ap (option_and_then (λ (g : Signature). g.result)) l ∙ h.1)),
+      laws.features.typed class_of_text x sg t l h.1,
+    )
     variable_typed None None None j l h = absurd h
 
     target_typed : IsTarget S k x t → TargetTyped x t s
@@ -363,10 +368,12 @@ module _ (u : List ClassT) (laws : UniverseLaws u) (r : Running u) (lawful : IsW
       → Fits system h (closed r (attached_form t)) v → Fits system h (closed r t) v × (is_void v ≡ false)
   unmarked_fits h (class_type d m ys) e v i fits =
       let zs = put_in_all r.actuals ys in
-      let something = not_void system h (closed r (attached_form (class_type d m ys))) v refl fits in
-      (from_object system h (class_type d m zs) v
-      (object_fits system h (attached_form (class_type d m zs)) (class_type d m zs) v (λ o. laws.types.marks o d m zs)
-      (as_object system h (attached_form (class_type d m zs)) v something fits)), something)
+      let something = not_void system h (closed r (attached_form (class_type d m ys))) v refl fits in (
+        from_object system h (class_type d m zs) v
+            (object_fits system h (attached_form (class_type d m zs)) (class_type d m zs) v (λ o. laws.types.marks o d m zs)
+            (as_object system h (attached_form (class_type d m zs)) v something fits)),
+        something,
+      )
   unmarked_fits h (formal_type i m) e v j fits = cc
   unmarked_fits h none_type e v j fits = cc
 

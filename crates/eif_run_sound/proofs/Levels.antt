@@ -92,8 +92,10 @@ module _ (u : List ClassT) (c : ClassT) (xs : Actuals) (h : List Object) (x : Li
       (i : Bool) → bytes_eq n.name x ≡ i → Fits (system_over u) h (put_in xs t) v → InNames ns t rest ts vs
       → InNames (n ∷ ns) t rest ts (v ∷ vs)
   name_or n ns t rest ts v vs true e fit behind =
-      inl (ap (λ i. i || has_name ns x) e,
-      (v, ap (λ i. if i then Some v else arguments_by (ns ++ rest) vs x) (turned n.name x true e), fit))
+      inl (
+        ap (λ i. i || has_name ns x) e,
+        (v, ap (λ i. if i then Some v else arguments_by (ns ++ rest) vs x) (turned n.name x true e), fit),
+      )
   name_or n ns t rest ts v vs false e fit behind =
       let there = ap (λ i. if i then Some v else arguments_by (ns ++ rest) vs x) (turned n.name x false e) in
       ⊎_elim

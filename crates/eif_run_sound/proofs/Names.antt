@@ -360,11 +360,14 @@ module _ (u : List ClassT) (laws : UniverseLaws u) (r : Running u) where
       let v = set_is s.result (g.result_set a is sure) in
       let type : written_type c a ≡ t = written_is a ∙ some_is e in
       subst (λ o. Safe (some_or unset o (λ v. give_seen v (written_type c a)) s)
-      (λ v w. Later [] s v × Good u r k set f v × Gives u r (heap_of v) (Some t) w)) (sym v.1)
-      (later_same [] s, g, record {
-        fits = subst (λ t. Fits system (heap_of s) (closed r t) v.0) (some_is e) (g.result a is v.0 v.1);
-        seen = ap attached_form type;
-      })
+      (λ v w. Later [] s v × Good u r k set f v × Gives u r (heap_of v) (Some t) w)) (sym v.1) (
+        later_same [] s,
+        g,
+        record {
+          fits = subst (λ t. Fits system (heap_of s) (closed r t) v.0) (some_is e) (g.result a is v.0 v.1);
+          seen = ap attached_form type;
+        },
+      )
 
   pub result_ok : (k : List Fact) (set : List (List ℕ)) (f : FieldSet) (s : State) → Good u r k set f s → (t : TyT)
       → S.result ≡ Some t → reads.ResultIsSet set S.result

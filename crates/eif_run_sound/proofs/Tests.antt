@@ -107,9 +107,12 @@ module _ (u : List ClassT) (laws : UniverseLaws u) (r : Running u) where
   local_shown s t v None shows e =
       let something = holds_something (heap_of s) None v.value e in
       let fits = subst (λ a. Fits system (heap_of s) a v.value) (sym (closed_attached r.actuals t))
-      (fits_attached system laws.types (heap_of s) (closed r t) v.value something shows.fits) in
-      (attached_form t, refl, record { fits = fits; seen = ap attached_form shows.seen },
-      subst (λ a. Fits system (heap_of s) (closed r a) v.value) (sym shows.seen) fits)
+      (fits_attached system laws.types (heap_of s) (closed r t) v.value something shows.fits) in (
+        attached_form t,
+        refl,
+        record { fits = fits; seen = ap attached_form shows.seen },
+        subst (λ a. Fits system (heap_of s) (closed r a) v.value) (sym shows.seen) fits,
+      )
   local_shown s t v (Some a) shows e =
       let o = as_object system (heap_of s) (closed r t) v.value (holds_something (heap_of s) (Some a) v.value e) shows.fits in
       let conforms : system.conforms (type_of o.object) (attached_form (closed r (written_type c a))) ≡ true =
@@ -122,11 +125,15 @@ module _ (u : List ClassT) (laws : UniverseLaws u) (r : Running u) where
         there = o.there;
         conforms = conforms;
         complete = o.complete;
-      }) in
-      (attached_form (written u r a), refl, record {
-        fits = subst (λ a. Fits system (heap_of s) (closed r (attached_form a)) v.value) (written_is u laws r a) fits;
-        seen = ap (λ t. attached_form (attached_form t)) (written_is u laws r a);
-      }, fits)
+      }) in (
+        attached_form (written u r a),
+        refl,
+        record {
+          fits = subst (λ a. Fits system (heap_of s) (closed r (attached_form a)) v.value) (written_is u laws r a) fits;
+          seen = ap (λ t. attached_form (attached_form t)) (written_is u laws r a);
+        },
+        fits,
+      )
 
   -- ---- the test
 
@@ -222,10 +229,11 @@ module _ (u : List ClassT) (laws : UniverseLaws u) (r : Running u) where
         where
           by : (b : Bool) → bytes_eq x y.name ≡ b → (if b then Some W else s.test x) ≡ Some z
               → Fits system (heap_of s) (closed r z.type) z.value × DenotesNothing u r x
-          by true q e =
-              (subst (λ z. Fits system (heap_of s) (closed r z.type) z.value) (some_is e) shown.3,
-              subst (DenotesNothing u r) (sym (same_name x y.name q))
-              (record { entity_none = no_entity_of u laws r y.name free.no_entity; feature_none = free.no_feature }))
+          by true q e = (
+            subst (λ z. Fits system (heap_of s) (closed r z.type) z.value) (some_is e) shown.3,
+            subst (DenotesNothing u r) (sym (same_name x y.name q))
+                (record { entity_none = no_entity_of u laws r y.name free.no_entity; feature_none = free.no_feature }),
+          )
           by false q e = g.tests x z e
 
       -- no usable test has its name
@@ -254,11 +262,12 @@ module _ (u : List ClassT) (laws : UniverseLaws u) (r : Running u) where
               → z.type ≡ Some a
               → (v : Seen) × (after_binding.test x ≡ Some v) × Shows u r (heap_of s) a v
           by x z a true i e q =
-              let type : rules.local_type S w (Some t) ≡ Some a = ap (λ (z : Usable). z.type) (some_is e) ∙ q in
-              (W,
-              ap (λ b. if b then Some W else s.test x)
-              ((bytes_eq-Decides x y.name).1 (sym (same_name y.name x i))),
-              subst (λ a. Shows u r (heap_of s) a W) (some_is (sym shown.1 ∙ type)) shown.2)
+              let type : rules.local_type S w (Some t) ≡ Some a = ap (λ (z : Usable). z.type) (some_is e) ∙ q in (
+                W,
+                ap (λ b. if b then Some W else s.test x)
+                    ((bytes_eq-Decides x y.name).1 (sym (same_name y.name x i))),
+                subst (λ a. Shows u r (heap_of s) a W) (some_is (sym shown.1 ∙ type)) shown.2,
+              )
           by x z a false i e q = cc
 
       holds_bound :
