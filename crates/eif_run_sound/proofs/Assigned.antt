@@ -1,7 +1,7 @@
 -- Targets that are set.
-use Rattle.std.proofs.Common.{◌≡◌, ℕ, Bool, true, false, not, List, [], ◌∷◌, ◌++◌, Option, Some, None, refl, sym, ap, ap₂, subst, ◌∙◌, inl, inr, ⊎_elim}
-use Rattle.std.specs.Prelude.{◌⊎◌, ◌||◌, ◌&&◌, if◌then◌else◌, slice_get, slice_set}
-use Rattle.std.specs.Option.{option_map, option_map_or, option_and_then}
+use Rattle.std.proofs.Common.{◌≡◌, ℕ, Bool, true, false, not, List, [], ◌∷◌, ◌++◌, Option, Some, None, refl, sym, ap, subst, ◌∙◌, inr, ⊎_elim}
+use Rattle.std.specs.Prelude.{◌||◌, ◌&&◌, if◌then◌else◌, slice_set}
+use Rattle.std.specs.Option.{option_map, option_map_or}
 use Rattle.std.specs.Str.{bytes_eq}
 use Rattle.std.proofs.lemmas.Slice.Eq.{bytes_eq-Decides}
 use Rattle.eif_base.specs.Numbering.{is_among}
@@ -11,32 +11,31 @@ use Rattle.eif_tree.specs.Tree.{TypeT, ClassT}
 use Rattle.eif_classes.specs.Binding.{bind}
 use Rattle.eif_classes.specs.Entries.{Declaration, declared_as}
 use Rattle.eif_classes.specs.Features.{is_attribute, is_field, origin}
-use Rattle.eif_classes.specs.KernelNumbers.{is_basic, integer_number, boolean_number, character_number}
+use Rattle.eif_classes.specs.KernelNumbers.{integer_number, boolean_number, character_number}
 use Rattle.eif_classes.specs.Resolution.{resolved}
 use Rattle.eif_classes.specs.Signatures.{Signature, signature}
 use Rattle.eif_classes.specs.Types.{TyT, put_in, is_self_initialising}
 use Rattle.eif_system.specs.Lineage.{line_of}
 use Rattle.eif_body_rules.specs.Facts.{Fact, attached, usable, Usable, earlier, is_known_attached, usable_test, forgotten}
 use Rattle.eif_body_rules.specs.KnownFacts.{without, learned}
-use Rattle.eif_body_rules.specs.Settings.{Setting, Entity, entity_of, is_local, test_local, feature, unknown, or_feature, or_entity, or_test, meaning}
-use Rattle.eif_body_rules.specs.Settings as rules
+use Rattle.eif_body_rules.specs.Settings.{Setting, Entity, entity_of, is_local, or_feature, or_entity, or_test, meaning}
 use Rattle.eif_body_rules.specs.Targets.{is_attribute_name}
-use Rattle.eif_flow_rules.specs.FieldSets.{FieldSet, only, union, common}
-use Rattle.eif_flow_rules.specs.FlowSteps.{unless_hidden, target_flow}
+use Rattle.eif_flow_rules.specs.FieldSets.{FieldSet}
+use Rattle.eif_flow_rules.specs.FlowSteps.{target_flow}
 use Rattle.eif_flow_rules.specs.FlowTrees.{Flow, idle, sets}
 use Rattle.eif_flow_rules.specs.VersionFlows as flows
 use Rattle.eif_meaning.specs.Values.{Value, void, integer, boolean, character, reference, ClassType, Object, State, Seen, no_feature, after, give, some_or}
 use Rattle.eif_meaning.specs.System.{System, system_over}
-use Rattle.eif_meaning.specs.Objects.{set_at, field_type, no_content, plain_object, object_of, object_at, with_heap, replace_object}
+use Rattle.eif_meaning.specs.Objects.{set_at, field_type, object_of, with_heap, replace_object}
 use Rattle.eif_meaning.specs.Frames.{Frame, argument, local, entity}
 use Rattle.eif_meaning.specs.Frames as frames
 use Rattle.eif_meaning.specs.Calls.{is_void}
-use Rattle.eif_meaning.specs.Assignments.{set_result, set_local, with_field, set_field, set_entity, unless_bound, set_target}
+use Rattle.eif_meaning.specs.Assignments.{set_result, with_field, set_field, set_entity, unless_bound, set_target}
 use Rattle.eif_valid_bodies.specs.KnownStays.{Fewer}
 use Rattle.eif_valid_bodies.specs.SetReads as reads
 use Rattle.eif_valid_bodies.specs.ValidInstructions.{IsVariable, IsTargetBy, IsTarget}
-use Rattle.eif_run_laws.specs.Holders.{IsSet, Fits, IsHeap, Grow}
-use Rattle.eif_run_laws.specs.Steps.{Safe, heap_of, with_store}
+use Rattle.eif_run_laws.specs.Holders.{IsSet, Fits, Grow}
+use Rattle.eif_run_laws.specs.Steps.{Safe, heap_of}
 use Rattle.eif_run_laws.specs.SystemLaws.{is_final}
 use Rattle.eif_run_laws.proofs.Lists.{some_is, get_written}
 use Rattle.eif_run_laws.proofs.Growing.{grow_same, grow_field, fits_grown}
@@ -47,8 +46,8 @@ use Rattle.eif_run_sound.specs.Fields.{Ready, due}
 use Rattle.eif_run_sound.specs.Invariant.{held_by, held_in, DenotesNothing, Held, Good, Later}
 use Rattle.eif_run_sound.specs.UniverseLaws.{UniverseLaws}
 use Rattle.eif_run_sound.proofs.States.{or_cases, or_left, or_right, held_later, good_later}
-use Rattle.eif_run_sound.proofs.Flows.{and_left, and_right}
-use Rattle.eif_run_sound.proofs.Known.{Apart, held_none, held_both, held_fewer, true_or_false}
+use Rattle.eif_run_sound.proofs.Flows.{and_right}
+use Rattle.eif_run_sound.proofs.Known.{held_none, held_both, held_fewer, true_or_false}
 use Rattle.eif_run_sound.proofs.Entities.{entity_cases}
 use Rattle.eif_run_sound.proofs.Names.{no_entity_of}
 use Rattle.eif_run_sound.proofs.Tests.{same_name}
@@ -152,12 +151,14 @@ module _ (u : List ClassT) (laws : UniverseLaws u) (r : Running u) (lawful : IsW
       by : (a d : Bool) → is_local S x ≡ a → b ≡ d
           → Held u r (if a && d then attached x ∷ [] else []) s
           × ((y : List ℕ) → usable_test (if a && d then attached x ∷ [] else []) y ≡ None)
-      by true true i j =
-          (record {
-            attached = λ y e v is. or_cases (bytes_eq x y) false e
-                (λ q. h i j v (ap (held_in u r s) (same_name x y q) ∙ is)) (λ q. cc);
-            usable = λ y w t e is. cc;
-          }, λ y. refl)
+      by true true i j = (
+        record {
+          attached = λ y e v is. or_cases (bytes_eq x y) false e
+              (λ q. h i j v (ap (held_in u r s) (same_name x y q) ∙ is)) (λ q. cc);
+          usable = λ y w t e is. cc;
+        },
+        λ y. refl,
+      )
       by true false i j = (held_none u r s, λ y. refl)
       by false d i j = (held_none u r s, λ y. refl)
 
@@ -207,24 +208,26 @@ module _ (u : List ClassT) (laws : UniverseLaws u) (r : Running u) (lawful : IsW
     result_set a is type name =
         let w = record s { result = Some v } in
         let none = subst (λ n. signature u (line_of u class_of_text) n ≡ None) (sym name) (laws.features.no_result class_of_text) in
-        let no_local = is_local_none x.name (subst (λ n. entity r.declaration.tree n ≡ None) (sym name) lawful.no_result) in
-        (grow_same (heap_of s), idle_fields w none record {
-          heap = g.heap;
-          object = g.object;
-          there = g.there;
-          made = g.made;
-          ready = g.ready;
-          arguments = g.arguments;
-          locals = g.locals;
-          locals_set = λ y b e sure. by_name y b e (bytes_eq y x.name) refl sure;
-          result = λ b e z i. subst (Fits system (heap_of s) (closed r (written u r b))) (some_is i)
-              (subst (λ t. Fits system (heap_of s) (closed r t) v) (sym type ∙ ap (written u r) (some_is (sym is ∙ e))) fits);
-          result_set = λ b e sure. tt;
-          tests = g.tests;
-          known = after_held k x.name known w (held_fewer u r (without S (x.name ∷ []) k) k w (less k x.name)
-              (record { attached = g.known.attached; usable = g.known.usable }))
-              (λ i j z e. let q : true ≡ false = sym i ∙ no_local in cc);
-        })
+        let no_local = is_local_none x.name (subst (λ n. entity r.declaration.tree n ≡ None) (sym name) lawful.no_result) in (
+          grow_same (heap_of s),
+          idle_fields w none record {
+            heap = g.heap;
+            object = g.object;
+            there = g.there;
+            made = g.made;
+            ready = g.ready;
+            arguments = g.arguments;
+            locals = g.locals;
+            locals_set = λ y b e sure. by_name y b e (bytes_eq y x.name) refl sure;
+            result = λ b e z i. subst (Fits system (heap_of s) (closed r (written u r b))) (some_is i)
+                (subst (λ t. Fits system (heap_of s) (closed r t) v) (sym type ∙ ap (written u r) (some_is (sym is ∙ e))) fits);
+            result_set = λ b e sure. tt;
+            tests = g.tests;
+            known = after_held k x.name known w (held_fewer u r (without S (x.name ∷ []) k) k w (less k x.name)
+                (record { attached = g.known.attached; usable = g.known.usable }))
+                (λ i j z e. let q : true ≡ false = sym i ∙ no_local in cc);
+          },
+        )
       where
         is_local_none : (y : List ℕ) → entity r.declaration.tree y ≡ None → is_local S y ≡ false
         is_local_none y e =
@@ -246,21 +249,23 @@ module _ (u : List ClassT) (laws : UniverseLaws u) (r : Running u) (lawful : IsW
         → is_local S x.name ≡ true
         → IsSetIn (record s { local = set_at x.name (Some v) s.local })
     local_set a is type none no_result is_one =
-        let w = record s { local = set_at x.name (Some v) s.local } in
-        (grow_same (heap_of s), idle_fields w none record {
-          heap = g.heap;
-          object = g.object;
-          there = g.there;
-          made = g.made;
-          ready = g.ready;
-          arguments = g.arguments;
-          locals = λ y b e z i. value_of y b e (bytes_eq y x.name) refl z i;
-          locals_set = λ y b e sure. sure_of y b e (bytes_eq y x.name) refl sure;
-          result = g.result;
-          result_set = λ b e sure. g.result_set b e (other_set set x.name result_name (written u r b) no_result sure);
-          tests = g.tests;
-          known = after_held k x.name known w kept (λ i j z e. subst (λ z. is_void z ≡ false) (some_is (sym (own refl) ∙ e)) (something j));
-        })
+        let w = record s { local = set_at x.name (Some v) s.local } in (
+          grow_same (heap_of s),
+          idle_fields w none record {
+            heap = g.heap;
+            object = g.object;
+            there = g.there;
+            made = g.made;
+            ready = g.ready;
+            arguments = g.arguments;
+            locals = λ y b e z i. value_of y b e (bytes_eq y x.name) refl z i;
+            locals_set = λ y b e sure. sure_of y b e (bytes_eq y x.name) refl sure;
+            result = g.result;
+            result_set = λ b e sure. g.result_set b e (other_set set x.name result_name (written u r b) no_result sure);
+            tests = g.tests;
+            known = after_held k x.name known w kept (λ i j z e. subst (λ z. is_void z ≡ false) (some_is (sym (own refl) ∙ e)) (something j));
+          },
+        )
       where
         -- what the local holds
         own : bytes_eq x.name x.name ≡ bytes_eq x.name x.name → held_in u r (record s { local = set_at x.name (Some v) s.local }) x.name ≡ Some v
@@ -411,11 +416,13 @@ module _ (u : List ClassT) (laws : UniverseLaws u) (r : Running u) (lawful : IsW
           (λ y z e. let p = g.tests y z e in (fits_grown system (heap_of s) h (closed r z.type) z.value grown p.0, p.1))
           (held_later u r k [] s w g.known later (λ y z e. refl)) in
           let same : good.object ≡ object =
-          some_is (sym good.there ∙ (ap (object_of h) is ∙ get_written (heap_of s) q g.object object at)) in
-          (grown, more_set w good
-          (after_held k x.name known w (held_fewer u r (without S (x.name ∷ []) k) k w (less k x.name) good.known)
-          (λ i j z e. let b : true ≡ false = sym i ∙ no_local in cc))
-          good (subst (Ready u (behind_on u r (sets n) f)) (sym same) object_ready))
+          some_is (sym good.there ∙ (ap (object_of h) is ∙ get_written (heap_of s) q g.object object at)) in (
+            grown,
+            more_set w good
+                (after_held k x.name known w (held_fewer u r (without S (x.name ∷ []) k) k w (less k x.name) good.known)
+                (λ i j z e. let b : true ≡ false = sym i ∙ no_local in cc))
+                good (subst (Ready u (behind_on u r (sets n) f)) (sym same) object_ready),
+          )
 
       field_set : Safe (set_field c x.name v s) SetEnds
       field_set =

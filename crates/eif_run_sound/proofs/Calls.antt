@@ -1,46 +1,38 @@
 -- Bodies and fields on objects.
-use Rattle.std.proofs.Common.{◌≡◌, ℕ, ◌==◌, Bool, true, false, List, [], ◌∷◌, ◌++◌, map, flat_map, length, Option, Some, None, refl, sym, ap, ap₂, subst, ◌∙◌, inl, inr, ⊎_elim, arith}
-use Rattle.std.specs.Prelude.{◌⊎◌, ◌&&◌, if◌then◌else◌}
-use Rattle.std.specs.Option.{option_map, option_map_or, option_and_then}
-use Rattle.std.specs.Str.{bytes_eq}
-use Rattle.std.proofs.lemmas.Bool.{eq-eqb}
+use Rattle.std.proofs.Common.{◌≡◌, ℕ, true, false, List, [], ◌∷◌, Option, Some, None, refl, sym, ap, subst, ◌∙◌, ⊎_elim}
+use Rattle.std.specs.Prelude.{if◌then◌else◌}
+use Rattle.std.specs.Option.{option_map_or, option_and_then}
 use Rattle.std.proofs.lemmas.Slice.Eq.{bytes_eq-Decides}
 use Rattle.eif_base.specs.declared.place.Place.{Place}
-use Rattle.eif_tree.specs.Tree.{KindT, attribute, constant, deferred_body, routine, GroupT, DeclT, ClassT}
-use Rattle.eif_classes.specs.Ancestry.{ancestor}
+use Rattle.eif_tree.specs.Tree.{ClassT}
 use Rattle.eif_classes.specs.Binding.{bind}
-use Rattle.eif_classes.specs.Entries.{Declaration, Origin, declared_as}
+use Rattle.eif_classes.specs.Entries.{Declaration, declared_as}
 use Rattle.eif_classes.specs.Features.{is_attribute, is_field, origin}
-use Rattle.eif_classes.specs.Resolution.{resolved}
-use Rattle.eif_classes.specs.Signatures.{Signature, signature, declared_signature}
-use Rattle.eif_classes.specs.Types.{TyT, Actuals, put_in, put_in_all, is_self_initialising}
-use Rattle.eif_feature_rules.specs.DeclarationRules.{is_deferred_kind}
+use Rattle.eif_classes.specs.Signatures.{Signature, signature}
+use Rattle.eif_classes.specs.Types.{TyT, put_in, is_self_initialising}
 use Rattle.eif_system.specs.Lineage.{line_of}
 use Rattle.eif_body_rules.specs.Facts.{Fact}
-use Rattle.eif_flow_rules.specs.FieldSets.{FieldSet, only, union, common}
-use Rattle.eif_flow_rules.specs.FlowTrees.{Flow, idle, reads, calls}
-use Rattle.eif_flow_rules.specs.MetNeeds.{Within}
+use Rattle.eif_flow_rules.specs.FieldSets.{FieldSet}
+use Rattle.eif_flow_rules.specs.FlowTrees.{idle, reads, calls}
 use Rattle.eif_flow_rules.specs.Summaries.{summary}
-use Rattle.eif_flow_rules.specs.VersionFlows.{body_in, call_of, use_of}
-use Rattle.eif_meaning.specs.Values.{Value, void, integer, boolean, character, reference, ClassType, Object, Store, Seen, State, unset, no_feature, Outcome, wrong, done, Does, after, ◌>>=◌, give, some_or}
+use Rattle.eif_flow_rules.specs.VersionFlows.{call_of, use_of}
+use Rattle.eif_meaning.specs.Values.{Value, void, integer, boolean, character, reference, ClassType, Object, State, unset, no_feature, done, after, give, some_or}
 use Rattle.eif_meaning.specs.System.{System, declaration_in, system_over}
-use Rattle.eif_meaning.specs.Objects.{field_type, object_of, object_at}
-use Rattle.eif_meaning.specs.Frames.{Body, Runner, Frame, argument_names, is_routine, takes}
-use Rattle.eif_meaning.specs.Calls.{body_on, run_body, run_declaration, enter, read_field, use_feature, feature_on, feature_of, seen_as}
-use Rattle.eif_run_laws.specs.ObjectTypes.{IsMade, Over}
+use Rattle.eif_meaning.specs.Objects.{field_type, object_of}
+use Rattle.eif_meaning.specs.Frames.{Frame}
+use Rattle.eif_meaning.specs.Calls.{run_declaration, enter, read_field, use_feature, feature_on}
 use Rattle.eif_run_laws.specs.Holders.{IsSet, IsComplete, Fits, AllFit, Answers, IsHeap}
-use Rattle.eif_run_laws.specs.Steps.{Safe, heap_of, with_store, Extends}
+use Rattle.eif_run_laws.specs.Steps.{Safe, heap_of, Extends}
 use Rattle.eif_run_laws.proofs.Lists.{some_is}
 use Rattle.eif_run_laws.proofs.Growing.{object_stays}
-use Rattle.eif_run_laws.proofs.Fitting.{fits_conforming, object_made}
 use Rattle.eif_run_laws.proofs.Keeps.{safe_after, safe_more, extends_same}
-use Rattle.eif_run_sound.specs.Bodies.{IsRoutine, signature_on, flow_on, body_of, Enters, Leaves, Running, frame_of, meanings_of, closed}
+use Rattle.eif_run_sound.specs.Bodies.{flow_on, Leaves, Running, frame_of, meanings_of}
 use Rattle.eif_run_sound.specs.ExpressionRuns.{MetOn, behind_on}
 use Rattle.eif_run_sound.specs.Fields.{Ready, due, Met, behind}
-use Rattle.eif_run_sound.specs.Invariant.{Gives, Good}
-use Rattle.eif_run_sound.specs.UniverseLaws.{ResultFits, IsServed, IsReadAs, IsAnswered, all_closed, maybe_closed, UniverseLaws}
+use Rattle.eif_run_sound.specs.Invariant.{Good}
+use Rattle.eif_run_sound.specs.UniverseLaws.{IsServed, IsReadAs, IsAnswered, all_closed, maybe_closed, UniverseLaws}
 use Rattle.eif_run_sound.proofs.States.{or_cases, or_left, or_right, ready_stays}
-use Rattle.eif_run_sound.proofs.Flows.{and_left, and_right, and_both, flow_keeps, all_met}
+use Rattle.eif_run_sound.proofs.Flows.{and_both, all_met}
 use Rattle.eif_run_sound.proofs.Known.{true_or_false}
 use Rattle.eif_run_sound.proofs.Declarations.{declaration_ok}
 use Rattle.eif_run_sound.proofs.Types.{answers_fit}
@@ -98,8 +90,13 @@ module _ (u : List ClassT) (laws : UniverseLaws u) (r : Running u) where
         safe_after (run_declaration system r.again v y vs s.store) (λ t a. done (record s { store = t }) a)
         (Leaves u (heap_of s) v y w.actuals f w.routine.text) _
         (declaration_ok u r.again r.runs s.store heap v o there ty is y args result vs f w fit ready met)
-        (λ t a l. ((record { rest = refl; grown = l.grown; heap = l.heap },
-        answers_fit u laws t.heap _ result a w.result_fits l.answers), l.ready))
+        (λ t a l. (
+          (
+            record { rest = refl; grown = l.grown; heap = l.heap },
+            answers_fit u laws t.heap _ result a w.result_fits l.answers,
+          ),
+          l.ready,
+        ))
 
     -- ---- fields
 
@@ -113,11 +110,12 @@ module _ (u : List ClassT) (laws : UniverseLaws u) (r : Running u) where
         let h = field_held system (heap_of s) v o n x.0 heap there x.1 in
         let t : h.0 ≡ w.type =
         some_is (sym h.1 ∙ (ap (λ (t : ClassType). field_type system t.class_number n) is ∙ w.field)) in
-        subst (λ o. Safe (some_or unset o (λ v. give (Some v)) s) (Called result s)) (sym x.1)
-        (extends_same system s heap,
-        answers_fit u laws (heap_of s) (Some (put_in ty.actuals w.type)) result (Some x.0) w.result_fits
-        (subst (λ (t : ClassType). Fits system (heap_of s) (put_in t.actuals w.type) x.0) is
-        (subst (λ t. Fits system (heap_of s) (put_in o.made.actuals t) x.0) t h.2)))
+        subst (λ o. Safe (some_or unset o (λ v. give (Some v)) s) (Called result s)) (sym x.1) (
+          extends_same system s heap,
+          answers_fit u laws (heap_of s) (Some (put_in ty.actuals w.type)) result (Some x.0) w.result_fits
+              (subst (λ (t : ClassType). Fits system (heap_of s) (put_in t.actuals w.type) x.0) is
+              (subst (λ t. Fits system (heap_of s) (put_in o.made.actuals t) x.0) t h.2)),
+        )
 
     -- ---- features
 

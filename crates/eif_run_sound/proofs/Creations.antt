@@ -8,7 +8,6 @@ use Rattle.eif_tree.specs.declared.tree.NameAt.{NameAt}
 use Rattle.eif_tree.specs.Tree.{ClassT}
 use Rattle.eif_classes.specs.Constraints.{class_in}
 use Rattle.eif_classes.specs.Creators.{default_creator, is_creator_for}
-use Rattle.eif_classes.specs.Features.{origin}
 use Rattle.eif_classes.specs.KernelNumbers.{is_basic}
 use Rattle.eif_classes.specs.Resolution.{actuals_in}
 use Rattle.eif_classes.specs.Signatures.{Signature, signature, with_actuals}
@@ -19,32 +18,30 @@ use Rattle.eif_body_rules.specs.CallRules.{Argument}
 use Rattle.eif_body_rules.specs.CreationRules.{Creation, is_deferred}
 use Rattle.eif_body_rules.specs.Settings.{Setting}
 use Rattle.eif_flow_rules.specs.FieldSets.{no_fields}
-use Rattle.eif_meaning.specs.Values.{Value, reference, ClassType, Object, Seen, State, no_feature, ◌>>=◌, give, some_or, fail}
+use Rattle.eif_meaning.specs.Values.{Value, reference, ClassType, Object, Seen, State, no_feature, give, some_or, fail}
 use Rattle.eif_meaning.specs.System.{System, declaration_in, system_over}
-use Rattle.eif_meaning.specs.Objects.{start, start_value, field_type, type_of, new_object, object_of, with_heap, allocate}
+use Rattle.eif_meaning.specs.Objects.{start, start_value, field_type, type_of, new_object, object_of, with_heap}
 use Rattle.eif_meaning.specs.Frames.{Frame}
 use Rattle.eif_meaning.specs.Operands.{give_seen}
-use Rattle.eif_meaning.specs.Calls.{unmarked, enter}
+use Rattle.eif_meaning.specs.Calls.{enter}
 use Rattle.eif_meaning.specs.Creations.{creator_name, make_by, make_of, create_object}
 use Rattle.eif_meaning.specs.Evaluation.{written_name}
 use Rattle.eif_valid_bodies.specs.ValidNodes.{IsCreated}
 use Rattle.eif_run_laws.specs.ObjectTypes.{IsMade}
-use Rattle.eif_run_laws.specs.Holders.{IsSet, IsComplete, Fits, AllFit, Grow, IsHeap}
-use Rattle.eif_run_laws.specs.Steps.{Safe, heap_of, with_store, Extends}
+use Rattle.eif_run_laws.specs.Holders.{IsSet, IsComplete, AllFit, IsHeap}
+use Rattle.eif_run_laws.specs.Steps.{Safe, heap_of, Extends}
 use Rattle.eif_run_laws.proofs.Lists.{some_is, get_new}
 use Rattle.eif_run_laws.proofs.Growing.{grow_added, grow_on, object_stays, all_grown}
 use Rattle.eif_run_laws.proofs.Fitting.{from_object, object_made}
 use Rattle.eif_run_laws.proofs.Heaps.{heap_created}
-use Rattle.eif_run_laws.proofs.Keeps.{safe_more, extends_lasts}
 use Rattle.eif_run_sound.specs.Bodies.{Running, frame_of, setting_of, flow_on, closed}
 use Rattle.eif_run_sound.specs.ExpressionRuns.{types_of}
-use Rattle.eif_run_sound.specs.Fields.{Ready, due, Met, behind}
-use Rattle.eif_run_sound.specs.Invariant.{Shows, Gives, Good}
+use Rattle.eif_run_sound.specs.Fields.{Ready, behind}
+use Rattle.eif_run_sound.specs.Invariant.{Shows, Gives}
 use Rattle.eif_run_sound.specs.UniverseLaws.{IsTypeIn, IsCreator, all_closed, UniverseLaws}
 use Rattle.eif_run_sound.proofs.States.{or_left, or_right, chain}
 use Rattle.eif_run_sound.proofs.Known.{true_or_false}
 use Rattle.eif_run_sound.proofs.Types.{suit, all_fit, closed_list}
-use Rattle.eif_run_sound.proofs.Names.{closed_attached, attached_twice}
 use Rattle.eif_run_sound.proofs.Calls.{enter_ok}
 
 get_within : {A : Type 0} (xs : List A) (i : ℕ) → i < length xs → (x : A) × (slice_get xs i ≡ Some x)

@@ -1,7 +1,6 @@
 -- Arguments and locals, as rules and runs find them.
-use Rattle.std.proofs.Common.{◌≡◌, ℕ, Bool, true, false, List, [], ◌∷◌, ◌++◌, map, flat_map, Option, Some, None, refl, sym, ap, subst, ◌∙◌, inl, inr, ⊎_elim}
+use Rattle.std.proofs.Common.{◌≡◌, ℕ, Bool, true, false, List, [], ◌∷◌, ◌++◌, map, Option, Some, None, refl, sym, ap, subst, ◌∙◌, inl, inr, ⊎_elim}
 use Rattle.std.specs.Prelude.{◌⊎◌, ◌||◌, cond, find}
-use Rattle.std.specs.List.{list_any}
 use Rattle.std.specs.Option.{option_map}
 use Rattle.std.specs.Str.{bytes_eq}
 use Rattle.eif_tree.specs.declared.tree.NameAt.{NameAt}
@@ -12,7 +11,7 @@ use Rattle.eif_classes.specs.Resolution.{resolved}
 use Rattle.eif_classes.specs.Types.{TyT}
 use Rattle.eif_body_rules.specs.EntityRules.{entity_at, entities_of, arguments_of, locals_of}
 use Rattle.eif_body_rules.specs.Settings as rules
-use Rattle.eif_meaning.specs.Frames.{type_in, entity_by, Entity, argument, local, entity}
+use Rattle.eif_meaning.specs.Frames.{type_in, entity_by, argument, local, entity}
 
 pub append_assoc : {A : Type 0} (xs ys zs : List A) → (xs ++ ys) ++ zs ≡ xs ++ (ys ++ zs)
 append_assoc [] ys zs = refl
@@ -60,13 +59,21 @@ module _ (u : List ClassT) (c : ClassT) where
       let more = entities_of u c b gs in
       let e = ap (λ l. first_of l x) (append_assoc (map (entity_at b t) g.names) more rest) in
       ⊎_elim
-      (λ p. inl (g.type_tree, ap (λ h. option_map (λ g. g.type_tree) (cond h (Some g) (find (λ g. has_name g.names x) gs))) p.0,
-      subst (IsFound b t) (sym e) p.1))
+      (λ p. inl (
+        g.type_tree,
+        ap (λ h. option_map (λ g. g.type_tree) (cond h (Some g) (find (λ g. has_name g.names x) gs))) p.0,
+        subst (IsFound b t) (sym e) p.1,
+      ))
       (λ p. ⊎_elim
-      (λ q. inl (q.0, ap (λ h. option_map (λ g. g.type_tree) (cond h (Some g) (find (λ g. has_name g.names x) gs))) p.0 ∙ q.1,
-      subst (IsFound b (resolved u c q.0)) (sym (e ∙ p.1)) q.2))
-      (λ q. inr (ap (λ h. option_map (λ g. g.type_tree) (cond h (Some g) (find (λ g. has_name g.names x) gs))) p.0 ∙ q.0,
-      e ∙ (p.1 ∙ q.1)))
+      (λ q. inl (
+        q.0,
+        ap (λ h. option_map (λ g. g.type_tree) (cond h (Some g) (find (λ g. has_name g.names x) gs))) p.0 ∙ q.1,
+        subst (IsFound b (resolved u c q.0)) (sym (e ∙ p.1)) q.2,
+      ))
+      (λ q. inr (
+        ap (λ h. option_map (λ g. g.type_tree) (cond h (Some g) (find (λ g. has_name g.names x) gs))) p.0 ∙ q.0,
+        e ∙ (p.1 ∙ q.1),
+      ))
       (in_groups b gs x rest))
       (in_group b t g.names x (more ++ rest))
 
@@ -90,8 +97,11 @@ module _ (u : List ClassT) (c : ClassT) where
       (λ p. inl (p.0, ap (λ o. entity_by o locals) p.1, p.2))
       (λ p. let e = ap (λ l. first_of l x) (sym (append_none (locals_of u c d))) in
       ⊎_elim
-      (λ q. inr (inl (q.0, ap (λ o. entity_by o locals) p.0 ∙ ap (entity_by None) q.1,
-      subst (IsFound true (resolved u c q.0)) (sym (p.1 ∙ e)) q.2)))
+      (λ q. inr (inl (
+        q.0,
+        ap (λ o. entity_by o locals) p.0 ∙ ap (entity_by None) q.1,
+        subst (IsFound true (resolved u c q.0)) (sym (p.1 ∙ e)) q.2,
+      )))
       (λ q. inr (inr (ap (λ o. entity_by o locals) p.0 ∙ ap (entity_by None) q.0, p.1 ∙ (e ∙ q.1))))
       (in_groups true (local_groups d.kind) x []))
       (in_groups false d.arguments x (locals_of u c d))

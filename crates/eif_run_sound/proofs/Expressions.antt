@@ -1,7 +1,6 @@
 -- Expressions without faults.
-use Rattle.std.proofs.Common.{◌≡◌, ℕ, Bool, true, false, not, List, [], ◌∷◌, ◌++◌, map, Option, Some, None, refl, sym, ap, subst, ◌∙◌, inl, inr, ⊎_elim}
-use Rattle.std.specs.Prelude.{◌⊎◌, ◌||◌, ◌&&◌, if◌then◌else◌}
-use Rattle.std.specs.Bool.{beq}
+use Rattle.std.proofs.Common.{◌≡◌, ℕ, Bool, true, false, not, List, [], ◌∷◌, ◌++◌, map, Option, Some, None, refl, sym, ap, subst, ◌∙◌, inl, inr}
+use Rattle.std.specs.Prelude.{◌⊎◌, ◌||◌, if◌then◌else◌}
 use Rattle.std.specs.Option.{option_map, option_map_or, option_and_then}
 use Rattle.eif_base.specs.declared.place.Place.{Place}
 use Rattle.eif_base.specs.Numbering.{is_among}
@@ -11,14 +10,13 @@ use Rattle.eif_tree.specs.declared.tree.Literal.TheVariants as lit
 use Rattle.eif_tree.specs.declared.tree.NameAt.{NameAt}
 use Rattle.eif_tree.specs.declared.tree.Op.{Op}
 use Rattle.eif_tree.specs.declared.tree.Op.TheVariants as op
-use Rattle.eif_tree.specs.Tree.{TypeT, Ex, literal, void_value, current_value, result_value, unqualified, precursor, qualified, creation, test, paren, unary, binary, Exs, no_exs, and_ex, ClassT}
-use Rattle.eif_classes.specs.Entries.{Declaration, declared_as}
+use Rattle.eif_tree.specs.Tree.{Ex, literal, void_value, current_value, result_value, unqualified, precursor, qualified, creation, test, paren, unary, binary, Exs, no_exs, and_ex, ClassT}
+use Rattle.eif_classes.specs.Entries.{Declaration}
 use Rattle.eif_classes.specs.Precursors as versions
-use Rattle.eif_classes.specs.Resolution.{own_type}
-use Rattle.eif_classes.specs.Signatures.{Signature, SignedEntry, signature, signed_entries_in}
+use Rattle.eif_classes.specs.Signatures.{SignedEntry, signature, signed_entries_in}
 use Rattle.eif_classes.specs.Types.{TyT, none_type, attached_form, is_self_initialising}
 use Rattle.eif_system.specs.Lineage.{line_of}
-use Rattle.eif_body_rules.specs.CallRules.{Argument, inherited}
+use Rattle.eif_body_rules.specs.CallRules.{Argument}
 use Rattle.eif_body_rules.specs.Conditions as conditions
 use Rattle.eif_body_rules.specs.Conditions.{name_in, compared_name}
 use Rattle.eif_body_rules.specs.CreationRules.{of_written}
@@ -31,10 +29,10 @@ use Rattle.eif_flow_rules.specs.FieldSets.{FieldSet}
 use Rattle.eif_flow_rules.specs.FlowTrees.{Flow, idle, calls}
 use Rattle.eif_flow_rules.specs.Summaries.{summary}
 use Rattle.eif_flow_rules.specs.TestLocals.{usable_by_left}
-use Rattle.eif_flow_rules.specs.VersionFlows.{call_of, precursor_origin}
+use Rattle.eif_flow_rules.specs.VersionFlows.{call_of}
 use Rattle.eif_meaning.specs.Values as values
 use Rattle.eif_meaning.specs.Values.{Value, void, Object, Seen, State, no_feature, Does, ◌>>=◌, give, some_or, need}
-use Rattle.eif_meaning.specs.System.{System, Version, declaration_in, version_in, system_over}
+use Rattle.eif_meaning.specs.System.{System, declaration_in, version_in, system_over}
 use Rattle.eif_meaning.specs.KernelTypes.{integer_type, boolean_type, character_type, string_type}
 use Rattle.eif_meaning.specs.Frames.{Frame, written_type, entity}
 use Rattle.eif_meaning.specs.Operands.{as_boolean, give_boolean}
@@ -46,7 +44,7 @@ use Rattle.eif_meaning.specs.Evaluation.{evaluate_literal, current_type, written
 use Rattle.eif_valid_bodies.specs.SetReads as reads
 use Rattle.eif_valid_bodies.specs.SetReads.{SetReads, SetReadsIn}
 use Rattle.eif_valid_bodies.specs.Valid.{Valid}
-use Rattle.eif_valid_bodies.specs.ValidCalls.{ValidPrecursor, Fit}
+use Rattle.eif_valid_bodies.specs.ValidCalls.{ValidPrecursor}
 use Rattle.eif_valid_bodies.specs.ValidNodes.{AreBoth, Operand, Operands}
 use Rattle.eif_valid_bodies.proofs.Calls.{none_given, more_given, used_name, used_precursor, used_call}
 use Rattle.eif_valid_bodies.proofs.Nodes.{literal_is, void_is, current_is, result_is, paren_is, valid_unary, valid_binary, valid_test, valid_creation}
@@ -56,7 +54,7 @@ use Rattle.eif_run_laws.specs.OperatorLaws as laws_of
 use Rattle.eif_run_laws.specs.OperatorLaws.{EndsIn, OperandFits, OperandsFit}
 use Rattle.eif_run_laws.specs.Steps.{Safe, heap_of, Extends}
 use Rattle.eif_run_laws.proofs.Lists.{some_is}
-use Rattle.eif_run_laws.proofs.Growing.{fits_grown, all_grown}
+use Rattle.eif_run_laws.proofs.Growing.{fits_grown}
 use Rattle.eif_run_laws.proofs.Fitting.{boolean_fits}
 use Rattle.eif_run_laws.proofs.Keeps.{safe_more}
 use Rattle.eif_run_laws.proofs.Operands.{boolean_is, literal_given, one_ok, two_ok}
@@ -71,11 +69,11 @@ use Rattle.eif_run_sound.proofs.Flows.{flow_keeps}
 use Rattle.eif_run_sound.proofs.Known.{Apart, held_none, held_fewer, held_both, told_apart}
 use Rattle.eif_run_sound.proofs.Types.{fits_in, all_fit, answers_seen}
 use Rattle.eif_run_sound.proofs.Entities.{append_none}
-use Rattle.eif_run_sound.proofs.Calls.{Called, own_body_ok}
-use Rattle.eif_run_sound.proofs.Names.{Named, written_is, name_ok, current_shown, result_ok}
+use Rattle.eif_run_sound.proofs.Calls.{own_body_ok}
+use Rattle.eif_run_sound.proofs.Names.{written_is, name_ok, current_shown, result_ok}
 use Rattle.eif_run_sound.proofs.Targets.{target_ok}
 use Rattle.eif_run_sound.proofs.Creations.{created_ok}
-use Rattle.eif_run_sound.proofs.Tests.{Tested, test_ok}
+use Rattle.eif_run_sound.proofs.Tests.{test_ok}
 use Rattle.eif_run_sound.proofs.Operands.{hides_left, compared, fewer_append, fewer_right, operands_apart, left_kept}
 
 -- nothing but the store changes after names were bound
@@ -220,13 +218,14 @@ module _ (u : List ClassT) (laws : UniverseLaws u) (r : Running u) (lawful : IsW
       (own_body_ok u laws r k set f s g a.version p (all_closed r.actuals e.signature.arguments)
       (maybe_closed r.actuals e.signature.result) vs a.serves args_fit (subst (λ m. MetOn u r m f) flow met))
       (λ v b h.
-      let good = good_extends u r k set f s v g h.0.0 in
-      (later_extends system [] s v h.0.0,
-      subst (λ m. Good u r k set (behind_on u r m f) v) (sym flow)
-      (good_ready u r k set f (behind_on u r (calls p a.version) f) v good (h.1 good.object good.there)),
-      subst (λ t. Gives u r (heap_of v) t (seen_as e.signature.result b)) (w.result_is)
-      (subst (λ t. Gives u r (heap_of v) t (seen_as t b)) (as_it_is e.signature.result)
-      (answers_seen u laws r (heap_of v) r.actuals (λ t. t) (λ t. refl) e.signature.result b h.0.1)))))
+      let good = good_extends u r k set f s v g h.0.0 in (
+        later_extends system [] s v h.0.0,
+        subst (λ m. Good u r k set (behind_on u r m f) v) (sym flow)
+            (good_ready u r k set f (behind_on u r (calls p a.version) f) v good (h.1 good.object good.there)),
+        subst (λ t. Gives u r (heap_of v) t (seen_as e.signature.result b)) (w.result_is)
+            (subst (λ t. Gives u r (heap_of v) t (seen_as t b)) (as_it_is e.signature.result)
+            (answers_seen u laws r (heap_of v) r.actuals (λ t. t) (λ t. refl) e.signature.result b h.0.1)),
+      )))
 
   -- ---- operators
 
@@ -309,9 +308,10 @@ module _ (u : List ClassT) (laws : UniverseLaws u) (r : Running u) (lawful : IsW
 
     fit_both : (z : TyT) → closed r z ≡ z → AreBoth S z a b
         → laws_of.BothFit system (heap_of v) z x.value y.value
-    fit_both z e h =
-        (subst (λ t. Fits system (heap_of v) t x.value) e (fits_in u laws r (heap_of v) a z x.value h.0 both.first.fits),
-        subst (λ t. Fits system (heap_of v) t y.value) e (fits_in u laws r (heap_of v) b z y.value h.1 both.second.fits))
+    fit_both z e h = (
+      subst (λ t. Fits system (heap_of v) t x.value) e (fits_in u laws r (heap_of v) a z x.value h.0 both.first.fits),
+      subst (λ t. Fits system (heap_of v) t y.value) e (fits_in u laws r (heap_of v) b z y.value h.1 both.second.fits),
+    )
 
     -- an operator that tells nothing
     op_plain : (o : Op) (t z : TyT) → t ≡ z → closed r z ≡ z → ((i : Bool) → facts S k n i (binary p o q left right) ≡ [])
@@ -400,7 +400,6 @@ module _ (u : List ClassT) (laws : UniverseLaws u) (r : Running u) (lawful : IsW
         go false e =
             truth_given k n set f (binary p op.NotEqual q left right) t s v true both.later both.good is (differ_told e) refl refl
 
-
     -- where both operands are evaluated
     strict_ok : (o : Op) (t : TyT) → asks_right o ≡ None → IsBinary o → Operands S o a b t → Ops o t
     strict_ok op.Plus t e w (inl h) = op_plain op.Plus t string_type h.1 refl (λ i. refl) (inl (fit_both string_type refl h.0, refl))
@@ -474,11 +473,12 @@ module _ (u : List ClassT) (laws : UniverseLaws u) (r : Running u) (lawful : IsW
         → Evaluated u r (with_left i) (n ++ test_names left) set g right b v w (Some y)
         → Good u r k set f w × Held u r (facts S k n i left) w
     right_done i w y second =
-        let apart = told_apart S k n i left a of_left in
-        (fewer_fields g w
-        (good_known u r (with_left i) k set g w second.good
-        (held_fewer u r k (with_left i) w (fewer_append k (facts S k n i left) apart) second.good.known)) keeps,
-        held_fewer u r (facts S k n i left) (with_left i) w (fewer_right k (facts S k n i left) apart) second.good.known)
+        let apart = told_apart S k n i left a of_left in (
+          fewer_fields g w
+              (good_known u r (with_left i) k set g w second.good
+              (held_fewer u r k (with_left i) w (fewer_append k (facts S k n i left) apart) second.good.known)) keeps,
+          held_fewer u r (facts S k n i left) (with_left i) w (fewer_right k (facts S k n i left) apart) second.good.known,
+        )
 
     abbrev Ends : Op → TyT → State → Option Seen → Type 0
     Ends o t = Evaluated u r k n set f (binary p o q left right) t s
@@ -745,11 +745,14 @@ module _ (u : List ClassT) (laws : UniverseLaws u) (r : Running u) (lawful : IsW
         (valued k n set f1 l w.first s (evaluate_ok l k n set hidden f w.first w.left_valid sets.0 spelled.1 hides met.0 s g))
         (λ v z ev. and_then_ok k n set f1 f2 l m w.first w.second p q s v z w.left_valid ev
         (λ a i. stays_set (flow_of u r (usable_by_left op.AndThen l ++ hidden) m) f1 a i) t w.types.0 w.types.1
-        (λ i. (w.right_valid, valued (k ++ facts S k n true l) (n ++ test_names l) set f2 m w.second v
-        (evaluate_ok m (k ++ facts S k n true l) (n ++ test_names l) set (usable_by_left op.AndThen l ++ hidden) f1 w.second
-        w.right_valid sets.1 spelled.2 more met.1 v
-        (known_right k n set f1 f2 l m w.first w.second p q s v z w.left_valid ev
-        (λ a i. stays_set (flow_of u r (usable_by_left op.AndThen l ++ hidden) m) f1 a i) true i)))))
+        (λ i. (
+          w.right_valid,
+          valued (k ++ facts S k n true l) (n ++ test_names l) set f2 m w.second v
+              (evaluate_ok m (k ++ facts S k n true l) (n ++ test_names l) set (usable_by_left op.AndThen l ++ hidden) f1 w.second
+              w.right_valid sets.1 spelled.2 more met.1 v
+              (known_right k n set f1 f2 l m w.first w.second p q s v z w.left_valid ev
+              (λ a i. stays_set (flow_of u r (usable_by_left op.AndThen l ++ hidden) m) f1 a i) true i)),
+        )))
     evaluate_ok (binary p op.OrElse q l m) k n set hidden f t valid sets spelled hides met s g =
         let w = valid_binary S k n p op.OrElse q l m t valid in
         let f1 = behind_on u r (flow_of u r hidden l) f in
@@ -759,11 +762,14 @@ module _ (u : List ClassT) (laws : UniverseLaws u) (r : Running u) (lawful : IsW
         (valued k n set f1 l w.first s (evaluate_ok l k n set hidden f w.first w.left_valid sets.0 spelled.1 hides met.0 s g))
         (λ v z ev. or_else_ok k n set f1 f2 l m w.first w.second p q s v z w.left_valid ev
         (λ a i. stays_set (flow_of u r (usable_by_left op.OrElse l ++ hidden) m) f1 a i) t w.types.0 w.types.1
-        (λ i. (w.right_valid, valued (k ++ facts S k n false l) (n ++ test_names l) set f2 m w.second v
-        (evaluate_ok m (k ++ facts S k n false l) (n ++ test_names l) set (usable_by_left op.OrElse l ++ hidden) f1 w.second
-        w.right_valid sets.1 spelled.2 more met.1 v
-        (known_right k n set f1 f2 l m w.first w.second p q s v z w.left_valid ev
-        (λ a i. stays_set (flow_of u r (usable_by_left op.OrElse l ++ hidden) m) f1 a i) false i)))))
+        (λ i. (
+          w.right_valid,
+          valued (k ++ facts S k n false l) (n ++ test_names l) set f2 m w.second v
+              (evaluate_ok m (k ++ facts S k n false l) (n ++ test_names l) set (usable_by_left op.OrElse l ++ hidden) f1 w.second
+              w.right_valid sets.1 spelled.2 more met.1 v
+              (known_right k n set f1 f2 l m w.first w.second p q s v z w.left_valid ev
+              (λ a i. stays_set (flow_of u r (usable_by_left op.OrElse l ++ hidden) m) f1 a i) false i)),
+        )))
     evaluate_ok (binary p op.Implies q l m) k n set hidden f t valid sets spelled hides met s g =
         let w = valid_binary S k n p op.Implies q l m t valid in
         let f1 = behind_on u r (flow_of u r hidden l) f in
@@ -773,11 +779,14 @@ module _ (u : List ClassT) (laws : UniverseLaws u) (r : Running u) (lawful : IsW
         (valued k n set f1 l w.first s (evaluate_ok l k n set hidden f w.first w.left_valid sets.0 spelled.1 hides met.0 s g))
         (λ v z ev. implies_ok k n set f1 f2 l m w.first w.second p q s v z w.left_valid ev
         (λ a i. stays_set (flow_of u r (usable_by_left op.Implies l ++ hidden) m) f1 a i) t w.types.0 w.types.1
-        (λ i. (w.right_valid, valued (k ++ facts S k n true l) (n ++ test_names l) set f2 m w.second v
-        (evaluate_ok m (k ++ facts S k n true l) (n ++ test_names l) set (usable_by_left op.Implies l ++ hidden) f1 w.second
-        w.right_valid sets.1 spelled.2 more met.1 v
-        (known_right k n set f1 f2 l m w.first w.second p q s v z w.left_valid ev
-        (λ a i. stays_set (flow_of u r (usable_by_left op.Implies l ++ hidden) m) f1 a i) true i)))))
+        (λ i. (
+          w.right_valid,
+          valued (k ++ facts S k n true l) (n ++ test_names l) set f2 m w.second v
+              (evaluate_ok m (k ++ facts S k n true l) (n ++ test_names l) set (usable_by_left op.Implies l ++ hidden) f1 w.second
+              w.right_valid sets.1 spelled.2 more met.1 v
+              (known_right k n set f1 f2 l m w.first w.second p q s v z w.left_valid ev
+              (λ a i. stays_set (flow_of u r (usable_by_left op.Implies l ++ hidden) m) f1 a i) true i)),
+        )))
     evaluate_ok (binary p op.Not q l m) k n set hidden f t valid sets spelled hides met s g = absurd spelled.0
     evaluate_ok (binary p op.Plus q l m) k n set hidden f t valid sets spelled hides met s g =
         let w = valid_binary S k n p op.Plus q l m t valid in

@@ -1,8 +1,7 @@
 -- Instructions without faults.
-use Rattle.std.proofs.Common.{◌≡◌, ℕ, zero, suc, Bool, true, false, not, List, [], ◌∷◌, ◌++◌, map, Option, Some, None, refl, sym, ap, subst, ◌∙◌, inl, inr, ⊎_elim}
-use Rattle.std.specs.Prelude.{◌⊎◌, ◌||◌, if◌then◌else◌}
-use Rattle.std.specs.List.{filter}
-use Rattle.std.specs.Option.{option_map, option_map_or, option_and_then}
+use Rattle.std.proofs.Common.{◌≡◌, ℕ, zero, suc, Bool, true, false, List, [], ◌∷◌, ◌++◌, map, Option, Some, None, refl, sym, ap, subst, ◌∙◌, inl, inr, ⊎_elim}
+use Rattle.std.specs.Prelude.{◌||◌, if◌then◌else◌}
+use Rattle.std.specs.Option.{option_map, option_and_then}
 use Rattle.std.specs.Str.{bytes_eq}
 use Rattle.std.proofs.lemmas.Slice.Eq.{bytes_eq-Decides}
 use Rattle.eif_base.specs.declared.code.Code.TheVariants as code
@@ -11,13 +10,13 @@ use Rattle.eif_base.specs.Numbering.{is_among}
 use Rattle.eif_tree.specs.declared.tree.NameAt.{NameAt}
 use Rattle.eif_tree.specs.Members.{result_name}
 use Rattle.eif_tree.specs.Tree.{TypeT, Ex, unqualified, precursor, qualified, Exs, no_exs, and_ex, Ins, assign, call, create, choose, loop, check, Inss, no_inss, and_ins, Branches, no_branches, and_branch, Otherwise, no_else, else_part, ClassT}
-use Rattle.eif_classes.specs.Constraints.{class_in, is_attached}
+use Rattle.eif_classes.specs.Constraints.{class_in}
 use Rattle.eif_classes.specs.Resolution.{resolved}
 use Rattle.eif_classes.specs.Signatures.{Signature, signature}
-use Rattle.eif_classes.specs.Types.{TyT, class_type, formal_type, none_type, Actuals, attached_form, put_in_all, is_self_initialising}
+use Rattle.eif_classes.specs.Types.{TyT, class_type, formal_type, none_type, attached_form, put_in_all, is_self_initialising}
 use Rattle.eif_system.specs.Lineage.{line_of}
 use Rattle.eif_body_rules.specs.CallRules.{Argument}
-use Rattle.eif_body_rules.specs.CreationRules.{Creation, of_written}
+use Rattle.eif_body_rules.specs.CreationRules.{of_written}
 use Rattle.eif_body_rules.specs.ExpressionTypes.{judge, facts}
 use Rattle.eif_body_rules.specs.Facts.{Fact, Usable, usable_test}
 use Rattle.eif_body_rules.specs.InstructionFaults.{judge_each, of_target}
@@ -27,13 +26,11 @@ use Rattle.eif_body_rules.specs.Settings as rules
 use Rattle.eif_body_rules.specs.Settings.{Setting, fits, Entity, entity_of, or_feature, or_entity, or_test, meaning}
 use Rattle.eif_body_rules.specs.TestRules.{test_names, test_names_in}
 use Rattle.eif_flow_rules.specs.FieldSets.{FieldSet}
-use Rattle.eif_flow_rules.specs.FlowSteps.{target_flow, instruction_flow, compound_flow, branches_flow, otherwise_flow}
+use Rattle.eif_flow_rules.specs.FlowSteps.{instruction_flow, compound_flow, branches_flow, otherwise_flow}
 use Rattle.eif_flow_rules.specs.TestLocals.{usable_if_true, usable_if_false}
-use Rattle.eif_meaning.specs.Values as values
-use Rattle.eif_meaning.specs.Values.{Value, ClassType, Object, Seen, State, no_feature, cut_off, Does, ◌>>=◌, give, some_or, need}
+use Rattle.eif_meaning.specs.Values.{Value, Object, Seen, State, no_feature, cut_off, Does, ◌>>=◌, give, some_or, need}
 use Rattle.eif_meaning.specs.System.{System, system_over}
-use Rattle.eif_meaning.specs.Objects.{type_of}
-use Rattle.eif_meaning.specs.Frames.{Frame, written_type, argument, local, entity}
+use Rattle.eif_meaning.specs.Frames.{Frame, written_type, local, entity}
 use Rattle.eif_meaning.specs.Calls.{is_void, call_name, call_on, call_version}
 use Rattle.eif_meaning.specs.Creations.{create_object}
 use Rattle.eif_meaning.specs.Assignments.{set_target, bound_type, entity_type, target_type, created_type}
@@ -44,11 +41,9 @@ use Rattle.eif_valid_bodies.specs.SetReads as reads
 use Rattle.eif_valid_bodies.specs.SetReads.{SetReads, SetReadsEach}
 use Rattle.eif_valid_bodies.specs.Valid.{Valid}
 use Rattle.eif_valid_bodies.specs.ValidCalls as valid_calls
-use Rattle.eif_valid_bodies.specs.ValidInstructions.{ValidExpression, ValidCondition, IsVariable, IsTargetBy, IsTarget, ValidAssign, ValidStatement, ValidCreate, IsCreatedFor, ValidInstruction, ValidCompound, ValidBranches, ValidOtherwise}
-use Rattle.eif_valid_bodies.specs.ValidNodes.{IsCreated}
+use Rattle.eif_valid_bodies.specs.ValidInstructions.{ValidExpression, ValidCondition, IsVariable, IsTargetBy, IsTarget, ValidStatement, IsCreatedFor, ValidInstruction, ValidCompound, ValidBranches, ValidOtherwise}
 use Rattle.eif_valid_bodies.proofs.Calls.{none_whole_given, more_whole_given}
 use Rattle.eif_valid_bodies.proofs.Staying.{fewer_where, fewer_branch, fewer_later, fewer_else, fewer_none, fewer_first, fewer_next, fewer_last}
-use Rattle.eif_run_laws.specs.ObjectTypes.{takes_void}
 use Rattle.eif_run_laws.specs.Holders.{Fits, AllFit, Grow}
 use Rattle.eif_run_laws.specs.Steps.{Safe, heap_of, Extends}
 use Rattle.eif_run_laws.proofs.Lists.{some_is}
@@ -63,14 +58,14 @@ use Rattle.eif_run_sound.specs.UniverseLaws.{IsTypeIn, UniverseLaws}
 use Rattle.eif_run_sound.specs.WrittenTexts.{OfType, IsWritten, AreWritten, InstructionIsWritten, CompoundIsWritten, BranchesAreWritten, OtherwiseIsWritten}
 use Rattle.eif_run_sound.proofs.States.{or_cases, or_left, or_right, chain, later_same, later_on, shows_grown, good_extends, good_known, good_ready}
 use Rattle.eif_run_sound.proofs.Flows.{and_left, and_right}
-use Rattle.eif_run_sound.proofs.Known.{true_or_false, held_both, held_fewer, told_apart}
+use Rattle.eif_run_sound.proofs.Known.{held_both, held_fewer, told_apart}
 use Rattle.eif_run_sound.proofs.Types.{suit, has_base, fits_in}
 use Rattle.eif_run_sound.proofs.Entities.{entity_cases}
 use Rattle.eif_run_sound.proofs.Names.{attached_twice, written_is, no_entity_of, name_ok}
 use Rattle.eif_run_sound.proofs.Targets.{not_void, target_ok}
 use Rattle.eif_run_sound.proofs.Creations.{created_ok}
 use Rattle.eif_run_sound.proofs.Operands.{hides_more, true_is_test, false_is_test}
-use Rattle.eif_run_sound.proofs.Expressions.{stays_set, valued, truth_of, name_set, entity_none, routine, version_ok, evaluate_ok, arguments_ok}
+use Rattle.eif_run_sound.proofs.Expressions.{stays_set, valued, truth_of, entity_none, routine, version_ok, evaluate_ok, arguments_ok}
 use Rattle.eif_run_sound.proofs.Assigned.{set_ok}
 
 -- ---- names that are surely set
@@ -265,8 +260,10 @@ module _ (u : List ClassT) (laws : UniverseLaws u) (r : Running u) (lawful : IsW
       (λ v z ev. chain (evaluate_all c args) (call_on c z x.name) v _ _
       (arguments_ok u laws r lawful args k (test_names e) set hidden f1 w.given w.args_valid valid.1.1 written.1 hides met.1 v ev.good)
       (λ y vs a. safe_more (call_on c z x.name vs y) _ _
-      (λ l o h. (grow_on (heap_of s) (heap_of v) (heap_of l) ev.later.grown (grow_on (heap_of v) (heap_of y) (heap_of l) a.later.grown h.0.grown),
-      good_extends u r k set f2 y l a.good h.0))
+      (λ l o h. (
+        grow_on (heap_of s) (heap_of v) (heap_of l) ev.later.grown (grow_on (heap_of v) (heap_of y) (heap_of l) a.later.grown h.0.grown),
+        good_extends u r k set f2 y l a.good h.0,
+      ))
       (target_ok u laws r y a.good.heap w.target z x.name w.given None w.signed vs w.target_attached w.found w.called
       w.result_is (shows_grown u r (heap_of v) (heap_of y) w.target z a.later.grown ev.gives) a.fit)))
   statement_ok e k set hidden f valid written hides met s g = dropped_ok e k set hidden f valid written hides met s g
@@ -306,10 +303,11 @@ module _ (u : List ClassT) (laws : UniverseLaws u) (r : Running u) (lawful : IsW
     result_typed : (o : Option TypeT) → r.declaration.tree.result_type ≡ o → option_map (resolved u r.text) o ≡ Some t
         → (option_map (written_type c) o ≡ Some t) × IsTypeIn u class_of_text t
     result_typed None is e = cc
-    result_typed (Some a) is e =
-        (ap Some (written_is u laws r a) ∙ e,
-        subst (IsTypeIn u class_of_text) (some_is e)
-        (laws.bodies.locals_typed r.declaration (routine u laws r lawful) a (inr is)))
+    result_typed (Some a) is e = (
+      ap Some (written_is u laws r a) ∙ e,
+      subst (IsTypeIn u class_of_text) (some_is e)
+          (laws.bodies.locals_typed r.declaration (routine u laws r lawful) a (inr is)),
+    )
 
     not_bound : (DenotesNothing u r x → ⊥) → s.test x ≡ None
     not_bound n = by (s.test x) refl
@@ -331,20 +329,22 @@ module _ (u : List ClassT) (laws : UniverseLaws u) (r : Running u) (lawful : IsW
         sym h.0 ∙ (ap (λ (e : Entity). e.is_local) (sym (some_is (sym a.2.1 ∙ j))) ∙ a.2.3) in cc)
         (λ rest. ⊎_elim
         (λ a. let type : written u r a.0 ≡ t =
-        sym a.2.2 ∙ (ap (λ (e : Entity). e.type) (some_is (sym a.2.1 ∙ j)) ∙ h.1) in
-        (ap (λ o. bound_type o (entity_type c (entity r.declaration.tree x) x))
-        (not_bound (λ n. let q : None ≡ Some (local a.0) = sym n.entity_none ∙ a.1 in cc))
-        ∙ (ap (λ o. entity_type c o x) a.1 ∙ ap Some (written_is u laws r a.0 ∙ type)),
-        subst (IsTypeIn u class_of_text) type
-        (laws.bodies.locals_typed r.declaration (routine u laws r lawful) a.0 (inl (x, a.1)))))
+        sym a.2.2 ∙ (ap (λ (e : Entity). e.type) (some_is (sym a.2.1 ∙ j)) ∙ h.1) in (
+          ap (λ o. bound_type o (entity_type c (entity r.declaration.tree x) x))
+              (not_bound (λ n. let q : None ≡ Some (local a.0) = sym n.entity_none ∙ a.1 in cc))
+              ∙ (ap (λ o. entity_type c o x) a.1 ∙ ap Some (written_is u laws r a.0 ∙ type)),
+          subst (IsTypeIn u class_of_text) type
+              (laws.bodies.locals_typed r.declaration (routine u laws r lawful) a.0 (inl (x, a.1))),
+        ))
         (λ a. let q : None ≡ Some e = sym a.1 ∙ j in cc) rest)
         (entity_cases u r.text r.declaration.tree x)
-    variable_typed None None (Some sg) j l h =
-        (ap (λ o. bound_type o (entity_type c (entity r.declaration.tree x) x))
-        (not_bound (λ n. let q : None ≡ Some sg = sym n.feature_none ∙ l in cc))
-        ∙ (ap (λ o. entity_type c o x) (no_entity_of u laws r x j)
-        ∙ (ap (option_and_then (λ (g : Signature). g.result)) l ∙ h.1)),
-        laws.features.typed class_of_text x sg t l h.1)
+    variable_typed None None (Some sg) j l h = (
+      ap (λ o. bound_type o (entity_type c (entity r.declaration.tree x) x))
+          (not_bound (λ n. let q : None ≡ Some sg = sym n.feature_none ∙ l in cc))
+          ∙ (ap (λ o. entity_type c o x) (no_entity_of u laws r x j)
+          ∙ (ap (option_and_then (λ (g : Signature). g.result)) l ∙ h.1)),
+      laws.features.typed class_of_text x sg t l h.1,
+    )
     variable_typed None None None j l h = absurd h
 
     target_typed : IsTarget S k x t → TargetTyped x t s
@@ -363,10 +363,12 @@ module _ (u : List ClassT) (laws : UniverseLaws u) (r : Running u) (lawful : IsW
       → Fits system h (closed r (attached_form t)) v → Fits system h (closed r t) v × (is_void v ≡ false)
   unmarked_fits h (class_type d m ys) e v i fits =
       let zs = put_in_all r.actuals ys in
-      let something = not_void system h (closed r (attached_form (class_type d m ys))) v refl fits in
-      (from_object system h (class_type d m zs) v
-      (object_fits system h (attached_form (class_type d m zs)) (class_type d m zs) v (λ o. laws.types.marks o d m zs)
-      (as_object system h (attached_form (class_type d m zs)) v something fits)), something)
+      let something = not_void system h (closed r (attached_form (class_type d m ys))) v refl fits in (
+        from_object system h (class_type d m zs) v
+            (object_fits system h (attached_form (class_type d m zs)) (class_type d m zs) v (λ o. laws.types.marks o d m zs)
+            (as_object system h (attached_form (class_type d m zs)) v something fits)),
+        something,
+      )
   unmarked_fits h (formal_type i m) e v j fits = cc
   unmarked_fits h none_type e v j fits = cc
 

@@ -1,6 +1,6 @@
 -- Bodies at levels.
 use Rattle.std.proofs.Common.{◌≡◌, ℕ, zero, suc, Bool, true, false, List, [], ◌∷◌, ◌++◌, map, flat_map, Option, Some, None, refl, sym, ap, subst, ◌∙◌, inl, inr, ⊎_elim}
-use Rattle.std.specs.Prelude.{◌⊎◌, ◌||◌, cond, if◌then◌else◌, find, slice_get}
+use Rattle.std.specs.Prelude.{◌⊎◌, ◌||◌, cond, if◌then◌else◌, find}
 use Rattle.std.specs.Option.{option_map, option_map_or, option_and_then}
 use Rattle.std.specs.Str.{bytes_eq}
 use Rattle.std.proofs.lemmas.Slice.Eq.{bytes_eq-Decides}
@@ -15,7 +15,7 @@ use Rattle.eif_classes.specs.Entries.{Declaration}
 use Rattle.eif_classes.specs.Features.{local_groups, is_attribute}
 use Rattle.eif_classes.specs.KernelNumbers.{any_number}
 use Rattle.eif_classes.specs.Resolution.{resolved}
-use Rattle.eif_classes.specs.Signatures.{Signature, signature, declared_signature, with_actuals}
+use Rattle.eif_classes.specs.Signatures.{Signature, signature, with_actuals}
 use Rattle.eif_classes.specs.Types.{TyT, none_type, Actuals, no_actuals, put_in, is_self_initialising}
 use Rattle.eif_feature_rules.specs.DeclarationRules.{is_deferred_kind}
 use Rattle.eif_system.specs.Lineage.{line_of}
@@ -32,24 +32,21 @@ use Rattle.eif_meaning.specs.KernelBodies.{BuiltIn, built_in_body}
 use Rattle.eif_meaning.specs.KernelTypes.{plain_type, string_type, out_name}
 use Rattle.eif_meaning.specs.System.{System, system_over}
 use Rattle.eif_meaning.specs.Objects.{start, start_value, object_of}
-use Rattle.eif_meaning.specs.Frames.{Runner, Frame, type_in, entity_by, Entity, argument, local, entity, argument_names, arguments_by, first_state}
-use Rattle.eif_meaning.specs.Calls.{is_void, through, feature_on, seen_as}
-use Rattle.eif_meaning.specs.BuiltIns.{any_class}
+use Rattle.eif_meaning.specs.Frames.{Runner, Frame, type_in, entity_by, Entity, argument, local, entity, arguments_by, first_state}
+use Rattle.eif_meaning.specs.Calls.{feature_on, seen_as}
 use Rattle.eif_meaning.specs.Evaluation.{evaluate_literal}
 use Rattle.eif_meaning.specs.Execution.{execute_all}
 use Rattle.eif_meaning.specs.Run.{finish, run_written, run_code, frame, level}
 use Rattle.eif_valid_bodies.specs.SetReads as reads
-use Rattle.eif_valid_bodies.specs.ValidBodies.{ValidEntities, ValidKind, ValidRoutine}
-use Rattle.eif_run_laws.specs.ObjectTypes.{IsMade, Over}
-use Rattle.eif_run_laws.specs.Holders as holders
-use Rattle.eif_run_laws.specs.Holders.{IsSet, Fits, AllFit, Answers, IsHeap}
-use Rattle.eif_run_laws.specs.KernelSignatures.{signature_of}
+use Rattle.eif_valid_bodies.specs.ValidBodies.{ValidKind, ValidRoutine}
+use Rattle.eif_run_laws.specs.ObjectTypes.{IsMade}
+use Rattle.eif_run_laws.specs.Holders.{IsSet, Fits, AllFit, Answers}
 use Rattle.eif_run_laws.specs.OperatorLaws.{EndsIn}
 use Rattle.eif_run_laws.specs.OperatorLaws as laws_of
-use Rattle.eif_run_laws.specs.BuiltInLaws.{IsCurrent, OutGives, BodyEnds}
+use Rattle.eif_run_laws.specs.BuiltInLaws.{OutGives, BodyEnds}
 use Rattle.eif_run_laws.specs.Steps.{Safe, heap_of, Extends}
 use Rattle.eif_run_laws.proofs.Lists.{some_is}
-use Rattle.eif_run_laws.proofs.Growing.{grow_same, object_stays}
+use Rattle.eif_run_laws.proofs.Growing.{object_stays}
 use Rattle.eif_run_laws.proofs.Fitting.{fits_conforming, start_fits, object_made, as_object}
 use Rattle.eif_run_laws.proofs.Keeps.{safe_more, safe_after}
 use Rattle.eif_run_laws.proofs.Operands.{literal_given}
@@ -92,8 +89,10 @@ module _ (u : List ClassT) (c : ClassT) (xs : Actuals) (h : List Object) (x : Li
       (i : Bool) → bytes_eq n.name x ≡ i → Fits (system_over u) h (put_in xs t) v → InNames ns t rest ts vs
       → InNames (n ∷ ns) t rest ts (v ∷ vs)
   name_or n ns t rest ts v vs true e fit behind =
-      inl (ap (λ i. i || has_name ns x) e,
-      (v, ap (λ i. if i then Some v else arguments_by (ns ++ rest) vs x) (turned n.name x true e), fit))
+      inl (
+        ap (λ i. i || has_name ns x) e,
+        (v, ap (λ i. if i then Some v else arguments_by (ns ++ rest) vs x) (turned n.name x true e), fit),
+      )
   name_or n ns t rest ts v vs false e fit behind =
       let there = ap (λ i. if i then Some v else arguments_by (ns ++ rest) vs x) (turned n.name x false e) in
       ⊎_elim

@@ -1,12 +1,10 @@
 -- Names: test locals, arguments, locals and features of Current.
 use Rattle.std.proofs.Common.{◌≡◌, ℕ, Bool, true, false, List, [], ◌∷◌, map, Option, Some, None, refl, sym, ap, subst, ◌∙◌, inl, inr, ⊎_elim}
-use Rattle.std.specs.Prelude.{◌⊎◌, ◌||◌, if◌then◌else◌, slice_get}
+use Rattle.std.specs.Prelude.{◌⊎◌, if◌then◌else◌}
 use Rattle.std.specs.Option.{option_map, option_map_or}
 use Rattle.eif_base.specs.declared.place.Place.{Place}
 use Rattle.eif_base.specs.Numbering.{is_among}
-use Rattle.eif_tree.specs.declared.tree.Mark.{Mark}
 use Rattle.eif_tree.specs.declared.tree.Mark.TheVariants.{Attached}
-use Rattle.eif_tree.specs.Members.{result_name}
 use Rattle.eif_tree.specs.Tree.{TypeT, ClassT}
 use Rattle.eif_classes.specs.Binding.{bind}
 use Rattle.eif_classes.specs.Resolution.{resolved, own_type, own_formals}
@@ -20,35 +18,34 @@ use Rattle.eif_body_rules.specs.Settings.{Setting, Meaning, test_local, feature,
 use Rattle.eif_body_rules.specs.Settings as rules
 use Rattle.eif_flow_rules.specs.FieldSets.{FieldSet}
 use Rattle.eif_flow_rules.specs.FlowSteps.{unless_hidden}
-use Rattle.eif_flow_rules.specs.FlowTrees.{Flow, idle, shows}
+use Rattle.eif_flow_rules.specs.FlowTrees.{Flow, idle}
 use Rattle.eif_flow_rules.specs.VersionFlows.{use_of}
-use Rattle.eif_meaning.specs.Values.{Value, ClassType, Object, Seen, State, Does, unset, no_feature, ◌>>=◌, give, some_or}
+use Rattle.eif_meaning.specs.Values.{Value, ClassType, Object, Seen, State, unset, no_feature, ◌>>=◌, give, some_or}
 use Rattle.eif_meaning.specs.System.{System, system_over}
-use Rattle.eif_meaning.specs.Objects.{type_of, object_of, field_type}
+use Rattle.eif_meaning.specs.Objects.{type_of, field_type}
 use Rattle.eif_meaning.specs.Frames.{Frame, written_type, argument, local, Entity, entity}
 use Rattle.eif_meaning.specs.Operands.{give_seen}
-use Rattle.eif_meaning.specs.Calls.{is_void, read_entity, entity_or_feature, bound_or, call_name, feature_on, feature_of, seen_as}
+use Rattle.eif_meaning.specs.Calls.{is_void, read_entity, entity_or_feature, bound_or, call_name, feature_on, seen_as}
 use Rattle.eif_meaning.specs.Evaluation.{current_type, read_result}
 use Rattle.eif_valid_bodies.specs.SetReads as reads
 use Rattle.eif_valid_bodies.specs.Valid.{HasType}
 use Rattle.eif_valid_bodies.specs.ValidCalls.{IsCalled}
 use Rattle.eif_valid_bodies.specs.ValidCalls as valid
-use Rattle.eif_run_laws.specs.Holders.{IsSet, IsComplete, Fits, AllFit, IsHeap}
+use Rattle.eif_run_laws.specs.Holders.{IsComplete, Fits, AllFit}
 use Rattle.eif_run_laws.specs.ObjectTypes.{IsMade, Over}
-use Rattle.eif_run_laws.specs.Steps.{Safe, heap_of, Extends}
+use Rattle.eif_run_laws.specs.Steps.{Safe, heap_of}
 use Rattle.eif_run_laws.proofs.Lists.{some_is}
 use Rattle.eif_run_laws.proofs.Fitting.{from_object, fits_attached}
-use Rattle.eif_run_laws.proofs.Keeps.{safe_more, safe_after}
 use Rattle.eif_run_sound.specs.Bodies.{Running, frame_of, setting_of, meanings_of, written, closed}
 use Rattle.eif_run_sound.specs.ExpressionRuns.{IsEntity, MetOn, behind_on, HidesNone, types_of}
-use Rattle.eif_run_sound.specs.Fields.{Ready, due}
-use Rattle.eif_run_sound.specs.Invariant.{Shows, Gives, held_by, held_in, DenotesNothing, Held, Good, Later}
-use Rattle.eif_run_sound.specs.UniverseLaws.{all_closed, maybe_closed, UniverseLaws}
+use Rattle.eif_run_sound.specs.Fields.{due}
+use Rattle.eif_run_sound.specs.Invariant.{Shows, Gives, held_by, held_in, DenotesNothing, Good, Later}
+use Rattle.eif_run_sound.specs.UniverseLaws.{UniverseLaws}
 use Rattle.eif_run_sound.proofs.States.{or_left, or_right, chain, later_same, later_extends, good_extends, good_ready}
 use Rattle.eif_run_sound.proofs.Known.{true_or_false}
-use Rattle.eif_run_sound.proofs.Types.{suit, all_fit, answers_seen, closed_list}
+use Rattle.eif_run_sound.proofs.Types.{suit, all_fit, answers_seen}
 use Rattle.eif_run_sound.proofs.Entities.{entity_cases}
-use Rattle.eif_run_sound.proofs.Calls.{Called, set_is, used_ok}
+use Rattle.eif_run_sound.proofs.Calls.{set_is, used_ok}
 
 -- ---- types
 
@@ -360,11 +357,14 @@ module _ (u : List ClassT) (laws : UniverseLaws u) (r : Running u) where
       let v = set_is s.result (g.result_set a is sure) in
       let type : written_type c a ≡ t = written_is a ∙ some_is e in
       subst (λ o. Safe (some_or unset o (λ v. give_seen v (written_type c a)) s)
-      (λ v w. Later [] s v × Good u r k set f v × Gives u r (heap_of v) (Some t) w)) (sym v.1)
-      (later_same [] s, g, record {
-        fits = subst (λ t. Fits system (heap_of s) (closed r t) v.0) (some_is e) (g.result a is v.0 v.1);
-        seen = ap attached_form type;
-      })
+      (λ v w. Later [] s v × Good u r k set f v × Gives u r (heap_of v) (Some t) w)) (sym v.1) (
+        later_same [] s,
+        g,
+        record {
+          fits = subst (λ t. Fits system (heap_of s) (closed r t) v.0) (some_is e) (g.result a is v.0 v.1);
+          seen = ap attached_form type;
+        },
+      )
 
   pub result_ok : (k : List Fact) (set : List (List ℕ)) (f : FieldSet) (s : State) → Good u r k set f s → (t : TyT)
       → S.result ≡ Some t → reads.ResultIsSet set S.result

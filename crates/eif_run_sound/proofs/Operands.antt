@@ -1,14 +1,11 @@
 -- What operators tell of their operands.
-use Rattle.std.proofs.Common.{◌≡◌, ℕ, Bool, true, false, not, List, [], ◌∷◌, ◌++◌, Option, Some, None, refl, sym, ap, subst, ◌∙◌, inl, inr, ⊎_elim}
-use Rattle.std.specs.Prelude.{◌⊎◌, ◌||◌, ◌&&◌, if◌then◌else◌}
-use Rattle.std.specs.Str.{bytes_eq}
-use Rattle.eif_base.specs.declared.place.Place.{Place}
+use Rattle.std.proofs.Common.{◌≡◌, ℕ, Bool, true, false, List, [], ◌++◌, Option, Some, None, refl, sym, ap, subst, ◌∙◌, inl, inr, ⊎_elim}
+use Rattle.std.specs.Prelude.{if◌then◌else◌}
 use Rattle.eif_base.specs.Numbering.{is_among}
 use Rattle.eif_tree.specs.declared.tree.NameAt.{NameAt}
 use Rattle.eif_tree.specs.declared.tree.Op.{Op}
 use Rattle.eif_tree.specs.declared.tree.Op.TheVariants as op
-use Rattle.eif_tree.specs.Tree.{Ex, literal, void_value, current_value, result_value, unqualified, precursor, qualified, creation, test, paren, unary, binary, ClassT}
-use Rattle.eif_classes.specs.Signatures.{signature}
+use Rattle.eif_tree.specs.Tree.{Ex, test, paren, unary, binary, ClassT}
 use Rattle.eif_classes.specs.Types.{TyT}
 use Rattle.eif_body_rules.specs.Conditions as conditions
 use Rattle.eif_body_rules.specs.Conditions.{name_in, tested_name, compared_name}
@@ -17,7 +14,7 @@ use Rattle.eif_body_rules.specs.Facts.{Fact, Usable, is_known_attached, usable_t
 use Rattle.eif_body_rules.specs.Settings.{Setting, is_testable}
 use Rattle.eif_body_rules.specs.TestRules.{local_names, test_names}
 use Rattle.eif_flow_rules.specs.TestLocals.{local_name, usable_if_true, usable_if_false, usable_by_left}
-use Rattle.eif_meaning.specs.Values.{Value, void, integer, boolean, character, reference, Seen, State}
+use Rattle.eif_meaning.specs.Values.{Value, void, integer, boolean, character, reference, State}
 use Rattle.eif_meaning.specs.Calls.{is_void}
 use Rattle.eif_meaning.specs.Frames.{entity}
 use Rattle.eif_meaning.specs.Operators.{same_value}

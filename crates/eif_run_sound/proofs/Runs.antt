@@ -1,14 +1,14 @@
 -- Runs from the root.
-use Rattle.std.proofs.Common.{◌≡◌, ℕ, Bool, true, false, not, List, [], ◌∷◌, Option, Some, None, refl, sym, ap, subst, ◌∙◌}
+use Rattle.std.proofs.Common.{◌≡◌, ℕ, Bool, true, false, not, List, [], ◌∷◌, Option, Some, None, refl, sym, ap, subst}
 use Rattle.std.specs.Prelude.{◌&&◌, if◌then◌else◌, slice_get}
 use Rattle.std.specs.Option.{option_map_or, option_and_then}
 use Rattle.eif_tree.specs.Tree.{ClassT}
 use Rattle.eif_classes.specs.KernelNumbers.{is_basic}
 use Rattle.eif_flow_rules.specs.FieldSets.{no_fields}
-use Rattle.eif_meaning.specs.Values.{reference, ClassType, Object, Store, no_feature, Outcome, done, stopped, cut_off, wrong}
+use Rattle.eif_meaning.specs.Values.{reference, Store, no_feature, Outcome, done, stopped, cut_off, wrong}
 use Rattle.eif_meaning.specs.System.{System, declaration_in, system_over}
 use Rattle.eif_meaning.specs.Objects.{new_object}
-use Rattle.eif_meaning.specs.Run.{level, root_store, run_root, Ran, went_wrong, ran, run_class, run, IsWrong}
+use Rattle.eif_meaning.specs.Run.{level, root_store, run_root, went_wrong, ran, run_class, run, IsWrong}
 use Rattle.eif_run_laws.specs.Holders.{IsHeap}
 use Rattle.eif_run_laws.specs.Steps.{Safe}
 use Rattle.eif_run_laws.proofs.Heaps.{heap_created}

@@ -1,23 +1,22 @@
 -- Later states, and the invariant in them.
-use Rattle.std.proofs.Common.{◌≡◌, ℕ, Bool, true, false, List, [], ◌∷◌, ◌++◌, Option, Some, None, refl, sym, ap, subst, ◌∙◌}
+use Rattle.std.proofs.Common.{◌≡◌, ℕ, Bool, true, false, List, [], ◌++◌, Option, Some, None, refl, sym, ap, subst, ◌∙◌}
 use Rattle.std.specs.Prelude.{◌||◌}
 use Rattle.std.specs.Str.{bytes_eq}
 use Rattle.std.proofs.lemmas.List.Folds.{list_any-append}
 use Rattle.eif_base.specs.Numbering.{is_among}
-use Rattle.eif_tree.specs.Tree.{TypeT, ClassT}
-use Rattle.eif_classes.specs.Types.{TyT, is_self_initialising, put_in}
+use Rattle.eif_tree.specs.Tree.{ClassT}
+use Rattle.eif_classes.specs.Types.{TyT}
 use Rattle.eif_body_rules.specs.Facts.{Fact, Usable, usable_test}
 use Rattle.eif_flow_rules.specs.FieldSets.{FieldSet}
-use Rattle.eif_meaning.specs.Values.{Value, ClassType, Object, Store, Seen, State, Outcome, Does, after, ◌>>=◌}
+use Rattle.eif_meaning.specs.Values.{ClassType, Object, Seen, State, Does, ◌>>=◌}
 use Rattle.eif_meaning.specs.System.{System, system_over}
-use Rattle.eif_meaning.specs.Objects.{field_type, object_of}
+use Rattle.eif_meaning.specs.Objects.{field_type}
 use Rattle.eif_meaning.specs.Frames.{Entity, argument, local, entity}
 use Rattle.eif_run_laws.specs.Holders.{IsSet, Fits, IsHeap, Stays, Grow}
-use Rattle.eif_run_laws.specs.Steps.{Safe, heap_of, with_store, Extends}
-use Rattle.eif_run_laws.proofs.Lists.{some_is}
+use Rattle.eif_run_laws.specs.Steps.{Safe, heap_of, Extends}
 use Rattle.eif_run_laws.proofs.Growing.{grow_same, grow_on, object_stays, fits_grown}
-use Rattle.eif_run_laws.proofs.Keeps.{safe_after, safe_more}
-use Rattle.eif_run_sound.specs.Bodies.{Running, frame_of, written, closed}
+use Rattle.eif_run_laws.proofs.Keeps.{safe_after}
+use Rattle.eif_run_sound.specs.Bodies.{Running, written, closed}
 use Rattle.eif_run_sound.specs.Fields.{Ready}
 use Rattle.eif_run_sound.specs.Invariant.{Shows, held_by, held_in, DenotesNothing, Held, Good, Later}
 

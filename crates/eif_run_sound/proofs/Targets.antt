@@ -1,5 +1,5 @@
 -- Calls on targets, and of versions of parents.
-use Rattle.std.proofs.Common.{◌≡◌, ℕ, Bool, true, false, List, [], ◌∷◌, map, Option, Some, None, refl, sym, ap, ap₂, subst, ◌∙◌}
+use Rattle.std.proofs.Common.{◌≡◌, ℕ, true, false, List, map, Option, Some, None, refl, sym, ap, subst, ◌∙◌}
 use Rattle.std.specs.Prelude.{if◌then◌else◌, is_some}
 use Rattle.std.specs.Option.{option_map, option_map_or, option_and_then}
 use Rattle.eif_tree.specs.declared.tree.Mark.{Mark}
@@ -14,18 +14,18 @@ use Rattle.eif_body_rules.specs.CallRules.{Argument, base_line, base_actuals}
 use Rattle.eif_body_rules.specs.Settings.{Setting}
 use Rattle.eif_meaning.specs.Values.{Value, void, integer, boolean, character, reference, ClassType, Object, Seen, State, void_target, no_feature, fail, ◌>>=◌, give, some_or}
 use Rattle.eif_meaning.specs.System.{System, system_over}
-use Rattle.eif_meaning.specs.Objects.{type_of, object_of}
+use Rattle.eif_meaning.specs.Objects.{object_of}
 use Rattle.eif_meaning.specs.Frames.{Frame}
-use Rattle.eif_meaning.specs.Calls.{is_void, unmarked, seen_class, through, call_on, feature_on, feature_of, seen_as}
+use Rattle.eif_meaning.specs.Calls.{is_void, unmarked, seen_class, through, call_on, feature_on, seen_as}
 use Rattle.eif_valid_bodies.specs.ValidCalls.{IsCalled}
-use Rattle.eif_run_laws.specs.ObjectTypes.{takes_void, IsMade, Over}
-use Rattle.eif_run_laws.specs.Holders.{IsComplete, IsObject, Fits, AllFit, IsHeap}
+use Rattle.eif_run_laws.specs.ObjectTypes.{takes_void, Over}
+use Rattle.eif_run_laws.specs.Holders.{IsComplete, Fits, AllFit, IsHeap}
 use Rattle.eif_run_laws.specs.Steps.{Safe, heap_of, Extends}
 use Rattle.eif_run_laws.proofs.Fitting.{as_object, object_made}
 use Rattle.eif_run_sound.specs.Bodies.{Running, frame_of, setting_of, closed}
 use Rattle.eif_run_sound.specs.ExpressionRuns.{types_of}
 use Rattle.eif_run_sound.specs.Invariant.{Shows, Gives}
-use Rattle.eif_run_sound.specs.UniverseLaws.{IsAnswered, all_closed, maybe_closed, UniverseLaws}
+use Rattle.eif_run_sound.specs.UniverseLaws.{all_closed, maybe_closed, UniverseLaws}
 use Rattle.eif_run_sound.proofs.States.{chain}
 use Rattle.eif_run_sound.proofs.Types.{suit, all_fit, answers_seen, closed_list}
 use Rattle.eif_run_sound.proofs.Calls.{Called, on_complete}

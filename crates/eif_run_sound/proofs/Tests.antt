@@ -1,7 +1,7 @@
 -- Object tests, and the names whose values an expression tells of.
-use Rattle.std.proofs.Common.{◌≡◌, ℕ, Bool, true, false, not, List, [], ◌∷◌, ◌++◌, map, Option, Some, None, refl, sym, ap, subst, ◌∙◌, inl, inr, ⊎_elim}
-use Rattle.std.specs.Prelude.{◌⊎◌, ◌||◌, if◌then◌else◌, is_some}
-use Rattle.std.specs.Option.{option_map, option_map_or}
+use Rattle.std.proofs.Common.{◌≡◌, ℕ, Bool, true, false, List, [], ◌∷◌, Option, Some, None, refl, sym, ap, subst, ◌∙◌, inl, inr, ⊎_elim}
+use Rattle.std.specs.Prelude.{◌||◌, if◌then◌else◌, is_some}
+use Rattle.std.specs.Option.{option_map_or}
 use Rattle.std.specs.Str.{bytes_eq}
 use Rattle.std.proofs.lemmas.Slice.Eq.{bytes_eq-Decides}
 use Rattle.eif_base.specs.declared.place.Place.{Place}
@@ -11,7 +11,7 @@ use Rattle.eif_tree.specs.Tree.{TypeT, Ex, test, ClassT}
 use Rattle.eif_classes.specs.Types.{TyT, attached_form}
 use Rattle.eif_body_rules.specs.Conditions.{name_in, if_testable, tested_name}
 use Rattle.eif_body_rules.specs.ExpressionTypes.{facts, all_attached, told_by_test}
-use Rattle.eif_body_rules.specs.Facts.{Fact, attached, usable, Usable, earlier, is_known_attached, usable_test}
+use Rattle.eif_body_rules.specs.Facts.{Fact, usable, Usable, usable_test}
 use Rattle.eif_body_rules.specs.OperatorRules.{boolean}
 use Rattle.eif_body_rules.specs.Settings.{Setting, is_testable, entity_of}
 use Rattle.eif_body_rules.specs.TestRules.{local_names, bound_local}
@@ -20,23 +20,23 @@ use Rattle.eif_flow_rules.specs.FieldSets.{FieldSet}
 use Rattle.eif_meaning.specs.Values as values
 use Rattle.eif_meaning.specs.Values.{Value, void, integer, character, reference, Object, Seen, State}
 use Rattle.eif_meaning.specs.System.{System, system_over}
-use Rattle.eif_meaning.specs.Objects.{set_at, type_of, object_of}
+use Rattle.eif_meaning.specs.Objects.{set_at, type_of}
 use Rattle.eif_meaning.specs.Frames.{Frame, written_type, entity}
 use Rattle.eif_meaning.specs.Calls.{is_void}
 use Rattle.eif_meaning.specs.KernelTypes.{boolean_type}
-use Rattle.eif_meaning.specs.ObjectTests.{is_of, holds, local_type, bind_local, run_test}
+use Rattle.eif_meaning.specs.ObjectTests.{holds, local_type, bind_local, run_test}
 use Rattle.eif_valid_bodies.specs.ValidNodes.{IsFree, ValidTest}
-use Rattle.eif_run_laws.specs.Holders.{IsObject, Fits, IsHeap}
+use Rattle.eif_run_laws.specs.Holders.{Fits}
 use Rattle.eif_run_laws.specs.Steps.{Safe, heap_of}
 use Rattle.eif_run_laws.proofs.Lists.{some_is}
 use Rattle.eif_run_laws.proofs.Growing.{grow_same}
 use Rattle.eif_run_laws.proofs.Fitting.{as_object, from_object, boolean_fits, fits_attached}
 use Rattle.eif_run_sound.specs.Bodies.{Running, frame_of, setting_of, written, closed}
-use Rattle.eif_run_sound.specs.ExpressionRuns.{IsEntity, Told}
+use Rattle.eif_run_sound.specs.ExpressionRuns.{IsEntity}
 use Rattle.eif_run_sound.specs.Invariant.{Shows, Gives, held_in, DenotesNothing, Held, Good, Later}
 use Rattle.eif_run_sound.specs.UniverseLaws.{UniverseLaws}
-use Rattle.eif_run_sound.proofs.States.{later_same, held_in_later, held_later, good_later}
-use Rattle.eif_run_sound.proofs.Known.{Apart, held_none, held_both, held_attached, true_or_false}
+use Rattle.eif_run_sound.proofs.States.{later_same, held_later, good_later}
+use Rattle.eif_run_sound.proofs.Known.{held_none, held_both, held_attached}
 use Rattle.eif_run_sound.proofs.Names.{closed_attached, written_is, no_entity_of}
 use Rattle.eif_run_sound.proofs.Entities.{entity_cases}
 
@@ -107,9 +107,12 @@ module _ (u : List ClassT) (laws : UniverseLaws u) (r : Running u) where
   local_shown s t v None shows e =
       let something = holds_something (heap_of s) None v.value e in
       let fits = subst (λ a. Fits system (heap_of s) a v.value) (sym (closed_attached r.actuals t))
-      (fits_attached system laws.types (heap_of s) (closed r t) v.value something shows.fits) in
-      (attached_form t, refl, record { fits = fits; seen = ap attached_form shows.seen },
-      subst (λ a. Fits system (heap_of s) (closed r a) v.value) (sym shows.seen) fits)
+      (fits_attached system laws.types (heap_of s) (closed r t) v.value something shows.fits) in (
+        attached_form t,
+        refl,
+        record { fits = fits; seen = ap attached_form shows.seen },
+        subst (λ a. Fits system (heap_of s) (closed r a) v.value) (sym shows.seen) fits,
+      )
   local_shown s t v (Some a) shows e =
       let o = as_object system (heap_of s) (closed r t) v.value (holds_something (heap_of s) (Some a) v.value e) shows.fits in
       let conforms : system.conforms (type_of o.object) (attached_form (closed r (written_type c a))) ≡ true =
@@ -122,11 +125,15 @@ module _ (u : List ClassT) (laws : UniverseLaws u) (r : Running u) where
         there = o.there;
         conforms = conforms;
         complete = o.complete;
-      }) in
-      (attached_form (written u r a), refl, record {
-        fits = subst (λ a. Fits system (heap_of s) (closed r (attached_form a)) v.value) (written_is u laws r a) fits;
-        seen = ap (λ t. attached_form (attached_form t)) (written_is u laws r a);
-      }, fits)
+      }) in (
+        attached_form (written u r a),
+        refl,
+        record {
+          fits = subst (λ a. Fits system (heap_of s) (closed r (attached_form a)) v.value) (written_is u laws r a) fits;
+          seen = ap (λ t. attached_form (attached_form t)) (written_is u laws r a);
+        },
+        fits,
+      )
 
   -- ---- the test
 
@@ -222,10 +229,11 @@ module _ (u : List ClassT) (laws : UniverseLaws u) (r : Running u) where
         where
           by : (b : Bool) → bytes_eq x y.name ≡ b → (if b then Some W else s.test x) ≡ Some z
               → Fits system (heap_of s) (closed r z.type) z.value × DenotesNothing u r x
-          by true q e =
-              (subst (λ z. Fits system (heap_of s) (closed r z.type) z.value) (some_is e) shown.3,
-              subst (DenotesNothing u r) (sym (same_name x y.name q))
-              (record { entity_none = no_entity_of u laws r y.name free.no_entity; feature_none = free.no_feature }))
+          by true q e = (
+            subst (λ z. Fits system (heap_of s) (closed r z.type) z.value) (some_is e) shown.3,
+            subst (DenotesNothing u r) (sym (same_name x y.name q))
+                (record { entity_none = no_entity_of u laws r y.name free.no_entity; feature_none = free.no_feature }),
+          )
           by false q e = g.tests x z e
 
       -- no usable test has its name
@@ -254,11 +262,12 @@ module _ (u : List ClassT) (laws : UniverseLaws u) (r : Running u) where
               → z.type ≡ Some a
               → (v : Seen) × (after_binding.test x ≡ Some v) × Shows u r (heap_of s) a v
           by x z a true i e q =
-              let type : rules.local_type S w (Some t) ≡ Some a = ap (λ (z : Usable). z.type) (some_is e) ∙ q in
-              (W,
-              ap (λ b. if b then Some W else s.test x)
-              ((bytes_eq-Decides x y.name).1 (sym (same_name y.name x i))),
-              subst (λ a. Shows u r (heap_of s) a W) (some_is (sym shown.1 ∙ type)) shown.2)
+              let type : rules.local_type S w (Some t) ≡ Some a = ap (λ (z : Usable). z.type) (some_is e) ∙ q in (
+                W,
+                ap (λ b. if b then Some W else s.test x)
+                    ((bytes_eq-Decides x y.name).1 (sym (same_name y.name x i))),
+                subst (λ a. Shows u r (heap_of s) a W) (some_is (sym shown.1 ∙ type)) shown.2,
+              )
           by x z a false i e q = cc
 
       holds_bound :

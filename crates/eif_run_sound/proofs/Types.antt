@@ -1,16 +1,14 @@
 -- What fits in a body, with its types closed.
-use Rattle.std.proofs.Common.{◌≡◌, ℕ, Bool, true, false, List, [], ◌∷◌, ◌++◌, map, flat_map, length, Option, Some, None, refl, sym, ap, ap₂, subst, ◌∙◌, arith}
+use Rattle.std.proofs.Common.{◌≡◌, ℕ, Bool, true, false, List, [], ◌∷◌, map, length, Option, Some, None, refl, sym, ap₂, subst, arith}
 use Rattle.std.specs.Prelude.{is_some}
 use Rattle.std.specs.Option.{option_map, option_map_or}
-use Rattle.eif_tree.specs.Tree.{ClassT, GroupT}
+use Rattle.eif_tree.specs.Tree.{ClassT}
 use Rattle.eif_classes.specs.Ancestry.{ancestor}
-use Rattle.eif_classes.specs.Conformance.{class_conforms, conforms, closed_conforms}
+use Rattle.eif_classes.specs.Conformance.{class_conforms, conforms}
 use Rattle.eif_classes.specs.Constraints.{constraint, base_type, is_attached}
-use Rattle.eif_classes.specs.Resolution.{resolved}
-use Rattle.eif_classes.specs.Signatures.{Signature, with_actuals}
-use Rattle.eif_classes.specs.Types.{TyT, class_type, formal_type, none_type, Actuals, marked, put_in, put_in_all}
+use Rattle.eif_classes.specs.Types.{TyT, class_type, formal_type, none_type, Actuals, marked, put_in}
 use Rattle.eif_body_rules.specs.CallRules.{Argument}
-use Rattle.eif_meaning.specs.Values.{Value, Object, Seen}
+use Rattle.eif_meaning.specs.Values.{Value, Object}
 use Rattle.eif_meaning.specs.System.{System, system_over}
 use Rattle.eif_meaning.specs.Calls.{seen_as}
 use Rattle.eif_valid_bodies.specs.ValidCalls.{Fit}
@@ -19,7 +17,7 @@ use Rattle.eif_run_laws.specs.Holders.{Fits, AllFit, Answers}
 use Rattle.eif_run_laws.proofs.Fitting.{fits_conforming}
 use Rattle.eif_run_sound.specs.Bodies.{Running, setting_of, closed}
 use Rattle.eif_run_sound.specs.ExpressionRuns.{types_of}
-use Rattle.eif_run_sound.specs.Invariant.{Shows, Gives}
+use Rattle.eif_run_sound.specs.Invariant.{Gives}
 use Rattle.eif_run_sound.proofs.Flows.{and_left}
 use Rattle.eif_run_sound.specs.UniverseLaws.{ResultFits, all_closed, maybe_closed, UniverseLaws}
 

@@ -1,7 +1,7 @@
 -- A body that runs, and what a runner of bodies promises.
 use Rattle.std.specs.Prelude.{◌≡◌, ℕ, false, List, Option, Some, None, slice_get}
 use Rattle.eif_tree.specs.Members.{result_name}
-use Rattle.eif_tree.specs.Tree.{TypeT, DeclT, ClassT}
+use Rattle.eif_tree.specs.Tree.{TypeT, ClassT}
 use Rattle.eif_classes.specs.Entries.{Declaration}
 use Rattle.eif_classes.specs.Features.{declaration_of, is_attribute}
 use Rattle.eif_classes.specs.Resolution.{resolved}
@@ -15,8 +15,8 @@ use Rattle.eif_flow_rules.specs.FieldSets.{FieldSet}
 use Rattle.eif_flow_rules.specs.FlowSteps.{Meanings}
 use Rattle.eif_flow_rules.specs.FlowTrees.{Flow}
 use Rattle.eif_flow_rules.specs.VersionFlows.{meanings_in, version_flow}
-use Rattle.eif_meaning.specs.Values.{Value, ClassType, Object, Store, Outcome}
-use Rattle.eif_meaning.specs.System.{System, system_over}
+use Rattle.eif_meaning.specs.Values.{Value, ClassType, Object, Store}
+use Rattle.eif_meaning.specs.System.{system_over}
 use Rattle.eif_meaning.specs.Objects.{object_of}
 use Rattle.eif_meaning.specs.Frames.{Body, Runner, Frame, entity}
 use Rattle.eif_meaning.specs.Run.{frame}

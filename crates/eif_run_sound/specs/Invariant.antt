@@ -1,6 +1,6 @@
 -- What holds of the state of a body while it runs: k is what is known, set the locals that are surely set, and f the
 -- fields of the object that are.
-use Rattle.std.specs.Prelude.{◌≡◌, ℕ, Bool, true, false, List, Option, Some, None}
+use Rattle.std.specs.Prelude.{◌≡◌, ℕ, true, false, List, Option, Some, None}
 use Rattle.eif_base.specs.Numbering.{is_among}
 use Rattle.eif_tree.specs.Members.{result_name}
 use Rattle.eif_tree.specs.Tree.{TypeT, ClassT}
@@ -10,7 +10,7 @@ use Rattle.eif_system.specs.Lineage.{line_of}
 use Rattle.eif_body_rules.specs.Facts.{Fact, Usable, is_known_attached, usable_test}
 use Rattle.eif_flow_rules.specs.FieldSets.{FieldSet}
 use Rattle.eif_meaning.specs.Values.{Value, Object, Seen, State}
-use Rattle.eif_meaning.specs.System.{System, system_over}
+use Rattle.eif_meaning.specs.System.{system_over}
 use Rattle.eif_meaning.specs.Objects.{object_of}
 use Rattle.eif_meaning.specs.Frames.{Entity, argument, local, entity}
 use Rattle.eif_meaning.specs.Calls.{is_void}

@@ -5,7 +5,6 @@ use Rattle.eif_classes.specs.Types.{no_actuals}
 use Rattle.eif_system.specs.Universe.{class_number}
 use Rattle.eif_meaning.specs.Values.{ClassType}
 use Rattle.eif_meaning.specs.System.{system_over}
-use Rattle.eif_meaning.specs.Frames.{Runner}
 use Rattle.eif_meaning.specs.Run.{level, run, IsWrong}
 use Rattle.eif_run_laws.specs.ObjectTypes.{IsMade}
 use Rattle.eif_run_sound.specs.Bodies.{RunsBodies}

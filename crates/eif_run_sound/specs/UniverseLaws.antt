@@ -1,7 +1,6 @@
 -- What runs ask of the classes of a universe. Each law is one that follows from rules which its classes keep.
 use Rattle.std.specs.Prelude.{◌≡◌, ◌⊎◌, ℕ, true, false, List, [], map, Option, Some, None, is_some, slice_get}
 use Rattle.std.specs.Option.{option_map}
-use Rattle.eif_base.specs.Numbering.{is_among}
 use Rattle.eif_tree.specs.declared.tree.Literal.{Literal}
 use Rattle.eif_tree.specs.declared.tree.Mark.{Mark}
 use Rattle.eif_tree.specs.declared.tree.Mark.TheVariants.{Attached}
@@ -13,7 +12,7 @@ use Rattle.eif_classes.specs.Conformance.{conforms, closed_conforms}
 use Rattle.eif_classes.specs.Constraints.{base_type, is_attached}
 use Rattle.eif_classes.specs.Creators.{is_creator_for}
 use Rattle.eif_classes.specs.Entries.{Declaration, declared_as}
-use Rattle.eif_classes.specs.Features.{is_attribute, has_feature, origin, declaration_of}
+use Rattle.eif_classes.specs.Features.{is_attribute, has_feature, origin}
 use Rattle.eif_classes.specs.KernelNumbers.{any_number, is_basic}
 use Rattle.eif_classes.specs.Precursors.{precursor}
 use Rattle.eif_classes.specs.Resolution.{resolved, own_formals}
@@ -30,11 +29,11 @@ use Rattle.eif_flow_rules.specs.FieldSets.{FieldSet, no_fields, common}
 use Rattle.eif_flow_rules.specs.MetNeeds.{Within}
 use Rattle.eif_flow_rules.specs.Summaries.{summary}
 use Rattle.eif_flow_rules.specs.VersionFlows.{precursor_origin}
-use Rattle.eif_meaning.specs.Values.{Value, ClassType, Object}
+use Rattle.eif_meaning.specs.Values.{ClassType, Object}
 use Rattle.eif_meaning.specs.Frames.{local, entity}
 use Rattle.eif_meaning.specs.KernelBodies.{BuiltIn, built_in_body}
 use Rattle.eif_meaning.specs.KernelTypes.{string_type, out_name}
-use Rattle.eif_meaning.specs.System.{System, system_over}
+use Rattle.eif_meaning.specs.System.{system_over}
 use Rattle.eif_meaning.specs.Objects.{field_type, type_of}
 use Rattle.eif_valid_bodies.specs.ValidBodies.{ValidDeclaration}
 use Rattle.eif_run_laws.specs.ObjectTypes.{takes_void, Suit, IsMade, Over}

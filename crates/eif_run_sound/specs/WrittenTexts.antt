@@ -1,5 +1,5 @@
 -- Texts of expressions and instructions as the grammar spells them, whose written types have P.
-use Rattle.std.specs.Prelude.{◌≡◌, ℕ, false, List, Option, Some, None}
+use Rattle.std.specs.Prelude.{◌≡◌, false, Option, Some, None}
 use Rattle.std.specs.Str.{bytes_eq}
 use Rattle.eif_tree.specs.declared.tree.Op.{Op}
 use Rattle.eif_tree.specs.declared.tree.Op.TheVariants as op
