@@ -225,7 +225,8 @@ module _ (u : List ClassT) (laws : UniverseLaws u) (r : Running u) where
         used_is p ∙ (use_is p
         ∙ ap (λ t. if t then reads p w.name else call_of p (Some (declared_as w.version))) e)
 
-    body_flow : (p : Place) → is_attribute w.version.tree.kind ≡ false → (meanings_of u r).used p x ≡ calls p w.version
+    body_flow : (p : Place) → is_attribute w.version.tree.kind ≡ false
+        → (meanings_of u r).used p x ≡ calls p w.version
     body_flow p e =
         used_is p ∙ (use_is p
         ∙ (ap (λ t. if t then reads p w.name else call_of p (Some (declared_as w.version))) e
@@ -234,7 +235,8 @@ module _ (u : List ClassT) (laws : UniverseLaws u) (r : Running u) where
     -- what the use of the name sets
     abbrev Used : Place → State → Option Value → Type 0
     Used p t a = Called result s t a
-        × ((o : Object) → object_of (heap_of t) r.current ≡ Some o → Ready u (behind_on u r ((meanings_of u r).used p x) f) o)
+        × ((o : Object) → object_of (heap_of t) r.current ≡ Some o
+        → Ready u (behind_on u r ((meanings_of u r).used p x) f) o)
 
     -- a field that is set
     field_is_set : (p : Place) (a : IsReadAs u r.type w.name w.version args result) → MetOn u r (reads p w.name) f
@@ -252,11 +254,17 @@ module _ (u : List ClassT) (laws : UniverseLaws u) (r : Running u) where
         → Safe (feature_on c r.current r.declaration.class_number x vs s) (Used p)
     used_field p a met =
         let flow = field_flow p a.is_field in
-        feature_by s g.heap r.current g.object g.there r.type g.made r.declaration.class_number x args result w vs (Used p)
-        (use_field s g.heap r.current g.object g.there r.type g.made r.declaration.class_number x args result w vs (Used p)
+        feature_by s g.heap r.current g.object g.there r.type g.made r.declaration.class_number x args result w vs
+        (Used p)
+        (use_field s g.heap r.current g.object g.there r.type g.made r.declaration.class_number x args result w vs
+        (Used p)
         a.is_field
         (safe_more (read_field g.object w.name vs s) (Called result s) (Used p)
-        (λ t b h. (h, λ o at. subst (λ m. Ready u (behind_on u r m f) o) (sym flow) (ready_later k set f s g t o h.0 at).0))
+        (λ t b h. (
+          h,
+          λ o at. subst (λ m. Ready u (behind_on u r m f) o) (sym flow)
+              (ready_later k set f s g t o h.0 at).0,
+        ))
         (read_ok s g.heap r.current g.object g.there r.type g.made w.name w.version args result vs a fit
         (field_is_set p a (subst (λ m. MetOn u r m f) flow met)))))
 
@@ -265,8 +273,10 @@ module _ (u : List ClassT) (laws : UniverseLaws u) (r : Running u) where
         → Safe (feature_on c r.current r.declaration.class_number x vs s) (Used p)
     used_body p a met =
         let flow = body_flow p a.routine.no_field in
-        feature_by s g.heap r.current g.object g.there r.type g.made r.declaration.class_number x args result w vs (Used p)
-        (use_body s g.heap r.current g.object g.there r.type g.made r.declaration.class_number x args result w vs (Used p)
+        feature_by s g.heap r.current g.object g.there r.type g.made r.declaration.class_number x args result w vs
+        (Used p)
+        (use_body s g.heap r.current g.object g.there r.type g.made r.declaration.class_number x args result w vs
+        (Used p)
         a.routine.no_field
         (safe_more (enter c r.current w.version vs s) _ (Used p)
         (λ t b h. (h.0, λ o at. subst (λ m. Ready u (behind_on u r m f) o) (sym flow) (h.1 o at)))

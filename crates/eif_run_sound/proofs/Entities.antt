@@ -44,7 +44,8 @@ module _ (u : List ClassT) (c : ClassT) where
   in_group : (b : Bool) (t : TyT) (ns : List NameAt) (x : List ℕ) (rest : List rules.Entity) → InGroup b t ns x rest
   in_group b t [] x rest = inr (refl, refl)
   in_group b t (n ∷ ns) x rest =
-      found_or b (bytes_eq n.name x) t n (has_name ns x) (first_of (map (entity_at b t) ns ++ rest) x) (first_of rest x)
+      found_or b (bytes_eq n.name x) t n (has_name ns x) (first_of (map (entity_at b t) ns ++ rest) x)
+      (first_of rest x)
       (in_group b t ns x rest)
 
   abbrev InGroups : Bool → List GroupT → List ℕ → List rules.Entity → Type 0

@@ -46,7 +46,8 @@ pub usable_right : (k l : List Fact) (x : List ℕ) → usable_test k x ≡ None
 usable_right [] l x e = refl
 usable_right (attached y ∷ k) l x e = usable_right k l x e
 usable_right (usable y t ∷ k) l x e =
-    if_none (bytes_eq y x) (earlier t (usable_test k x)) (usable_test k x) (usable_test (k ++ l) x) (usable_test l x) e
+    if_none (bytes_eq y x) (earlier t (usable_test k x)) (usable_test k x) (usable_test (k ++ l) x)
+    (usable_test l x) e
     (usable_right k l x) (earlier t (usable_test (k ++ l) x))
 
 -- no name has a usable test in both

@@ -69,7 +69,8 @@ mutual
       (λ i. among_right (test_names l) (test_names r) x (false_is_test r x i))
   false_is_test _ x h = cc
 
-left_is_test : (o : Op) (e : Ex) (x : List ℕ) → is_among (usable_by_left o e) x ≡ true → is_among (test_names e) x ≡ true
+left_is_test : (o : Op) (e : Ex) (x : List ℕ) → is_among (usable_by_left o e) x ≡ true
+    → is_among (test_names e) x ≡ true
 left_is_test op.AndThen e x h = true_is_test e x h
 left_is_test op.Implies e x h = true_is_test e x h
 left_is_test op.OrElse e x h = false_is_test e x h
@@ -97,7 +98,8 @@ fewer_right k l apart = record {
 }
 
 -- an operand tells of other tests than the one on its left
-pub operands_apart : (s : Setting) (k : List Fact) (n : List (List ℕ)) (a b : Bool) (l r : Ex) (j : List Fact) (t : TyT)
+pub operands_apart : (s : Setting) (k : List Fact) (n : List (List ℕ)) (a b : Bool) (l r : Ex) (j : List Fact)
+    (t : TyT)
     → Valid (judge s j (n ++ test_names l) r) t
     → Apart (facts s k n a l) (facts s j (n ++ test_names l) b r)
 operands_apart s k n a b l r j t valid x = ⊎_elim

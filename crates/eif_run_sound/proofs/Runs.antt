@@ -34,7 +34,8 @@ not_basic (Some c) true h = never c.is_deferred h
     never true h = cc
     never false h = cc
 
-module _ (u : List ClassT) (laws : UniverseLaws u) (class_name procedure : List ℕ) (root : IsRoot u class_name procedure) (n : ℕ) where
+module _ (u : List ClassT) (laws : UniverseLaws u) (class_name procedure : List ℕ)
+    (root : IsRoot u class_name procedure) (n : ℕ) where
   abbrev system : System
   system = system_over u
 
@@ -43,7 +44,8 @@ module _ (u : List ClassT) (laws : UniverseLaws u) (class_name procedure : List 
 
   first_heap : IsHeap system (new_object system (root_type d) ∷ [])
   first_heap =
-      heap_created system laws.types [] (root_type d) (λ q o e. cc) root.made (not_basic (slice_get u d) (is_basic d) root.creatable)
+      heap_created system laws.types [] (root_type d) (λ q o e. cc) root.made (not_basic (slice_get u d)
+      (is_basic d) root.creatable)
 
   root_ok : IsWrong (ran (run_root n system d (system.origin d procedure))) → ⊥
   root_ok =
@@ -57,5 +59,6 @@ module _ (u : List ClassT) (laws : UniverseLaws u) (class_name procedure : List 
   pub run_ok : IsWrong (run n system class_name procedure) → ⊥
   run_ok =
       subst (λ o. IsWrong (run_class n system procedure o) → ⊥) (sym root.named)
-      (subst (λ t. IsWrong (if t then ran (run_root n system d (system.origin d procedure)) else went_wrong no_feature []) → ⊥)
+      (subst (λ t. IsWrong (if t then ran (run_root n system d
+      (system.origin d procedure)) else went_wrong no_feature []) → ⊥)
       (sym root.creatable) root_ok)

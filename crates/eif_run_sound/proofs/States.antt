@@ -51,7 +51,8 @@ among_neither xs ys x h i =
 
 pub among_cases : {P : Type 0} (xs ys : List (List ℕ)) (x : List ℕ) → is_among (xs ++ ys) x ≡ true
     → (is_among xs x ≡ true → P) → (is_among ys x ≡ true → P) → P
-among_cases xs ys x h f g = or_cases (is_among xs x) (is_among ys x) (sym (list_any-append (bytes_eq x) xs ys) ∙ h) f g
+among_cases xs ys x h f g = or_cases (is_among xs x) (is_among ys x) (sym (list_any-append
+    (bytes_eq x) xs ys) ∙ h) f g
 
 pub among_left : (xs ys : List (List ℕ)) (x : List ℕ) → is_among xs x ≡ true → is_among (xs ++ ys) x ≡ true
 among_left xs ys x h = list_any-append (bytes_eq x) xs ys ∙ or_left (is_among xs x) (is_among ys x) h
@@ -113,7 +114,11 @@ module _ (u : List ClassT) (r : Running u) where
   held_in_later names s t x l = held_by_later names s t x (entity r.declaration.tree x) l
 
   pub shows_grown : (h k : List Object) (t : TyT) (w : Seen) → Grow h k → Shows u r h t w → Shows u r k t w
-  shows_grown h k t w g s = record { fits = fits_grown (system_over u) h k (closed r t) w.value g s.fits; seen = s.seen }
+  shows_grown h k t w g s = record {
+    fits = fits_grown (system_over u) h k
+        (closed r t) w.value g s.fits;
+    seen = s.seen;
+  }
 
   -- what is known stays so, but for tests whose locals are bound anew
   pub held_later : (k : List Fact) (names : List (List ℕ)) (s t : State) → Held u r k s → Later names s t

@@ -48,7 +48,8 @@ has_base u k (formal_type i m) none_type c h = cc
 has_base u k none_type b c h = cc
 
 -- a result of a type that conforms to another
-pub answers_fit : (u : List ClassT) → UniverseLaws u → (h : List Object) (a b : Option TyT) (o : Option Value) → ResultFits u a b
+pub answers_fit : (u : List ClassT) → UniverseLaws u → (h : List Object) (a b : Option TyT) (o : Option Value)
+    → ResultFits u a b
     → Answers (system_over u) h a o → Answers (system_over u) h b o
 answers_fit u laws h None None o c f = f
 answers_fit u laws h None (Some b) o c f = absurd c
@@ -83,7 +84,8 @@ module _ (u : List ClassT) (laws : UniverseLaws u) (r : Running u) where
   -- a result under the type as which the text sees it, which closes to that of the feature
   pub answers_seen : (h : List Object) (zs : Actuals) (see : TyT → TyT)
       → ((t : TyT) → closed r (see t) ≡ put_in zs t) → (t : Option TyT) (a : Option Value)
-      → Answers (system_over u) h (maybe_closed zs t) a → Gives u r h (option_map see t) (seen_as (option_map see t) a)
+      → Answers (system_over u) h (maybe_closed zs t) a → Gives u r h (option_map see t) (seen_as
+      (option_map see t) a)
   answers_seen h zs see e None None f = tt
   answers_seen h zs see e None (Some v) f = absurd f
   answers_seen h zs see e (Some t) None f = absurd f

@@ -24,10 +24,12 @@ pub record IsRoot (u : List ClassT) (class_name procedure : List ℕ) : Type 0 w
 
 -- bodies with any bounds do not go wrong
 abbrev pub BodiesRun : Type 0
-BodiesRun = (u : List ClassT) → UniverseLaws u → (turns n : ℕ) → RunsBodies u (level (system_over u) turns n)
+BodiesRun = (u : List ClassT) → UniverseLaws u → (turns n : ℕ)
+    → RunsBodies u (level (system_over u) turns n)
 
 -- nor do runs
 abbrev pub RunsAreSound : Type 0
 RunsAreSound =
-    (u : List ClassT) → UniverseLaws u → (class_name procedure : List ℕ) → IsRoot u class_name procedure
+    (u : List ClassT) → UniverseLaws u → (class_name procedure : List ℕ)
+    → IsRoot u class_name procedure
     → (n : ℕ) → IsWrong (run n (system_over u) class_name procedure) → ⊥

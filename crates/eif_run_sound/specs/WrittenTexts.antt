@@ -60,7 +60,8 @@ abbrev mutual
 
   pub BranchesAreWritten : (TypeT → Type 0) → Branches → Type 0
   BranchesAreWritten P no_branches = Unit {0}
-  BranchesAreWritten P (and_branch e is bs) = IsWritten P e × CompoundIsWritten P is × BranchesAreWritten P bs
+  BranchesAreWritten P (and_branch e is bs) = IsWritten P e × CompoundIsWritten P is
+      × BranchesAreWritten P bs
 
   pub OtherwiseIsWritten : (TypeT → Type 0) → Otherwise → Type 0
   OtherwiseIsWritten P no_else = Unit {0}

@@ -32,7 +32,8 @@ use Rattle.eif_run_sound.proofs.Flows.{and_left, and_right}
 use Rattle.eif_run_types.proofs.ClosedTypes.{count_is, all_closed_is, there, are_closed, suit_meets}
 
 module _ (u : List ClassT) (order : List ℕ) (is : IsHierarchy u order) (defined : Defined u) where
-  transitive : (a b c : TyT) → closed_conforms u a b ≡ true → closed_conforms u b c ≡ true → closed_conforms u a c ≡ true
+  transitive : (a b c : TyT) → closed_conforms u a b ≡ true → closed_conforms u b c ≡ true
+      → closed_conforms u a c ≡ true
   transitive (class_type k m xs) (class_type j n ys) c h g =
       conforming.transitive u order is defined 0 (class_type k m xs) (class_type j n ys) c h g
   transitive (class_type k m xs) (formal_type j n) c h g = cc
@@ -73,7 +74,8 @@ module _ (u : List ClassT) (order : List ℕ) (is : IsHierarchy u order) (define
 
   -- ---- the formals of a class, with actuals put in
 
-  own_by : (o : Option ClassT) (xs : Actuals) → actual_count xs ≡ actual_count (option_map_or own_formals o no_actuals)
+  own_by : (o : Option ClassT) (xs : Actuals) → actual_count xs ≡ actual_count
+      (option_map_or own_formals o no_actuals)
       → put_in_all xs (option_map_or own_formals o no_actuals) ≡ xs
   own_by None no_actuals e = refl
   own_by None (and_actual x xs) e = absurd (omega arith)
@@ -116,7 +118,8 @@ module _ (u : List ClassT) (order : List ℕ) (is : IsHierarchy u order) (define
       by None h = cc
       by (Some c) h = there (slice_get c.formals i) refl h
         where
-          there : (f : Option FormalT) → slice_get c.formals i ≡ f → is_some (option_map (formal_constraint u c) f) ≡ true
+          there : (f : Option FormalT) → slice_get c.formals i ≡ f
+              → is_some (option_map (formal_constraint u c) f) ≡ true
               → i < length c.formals
           there None e h = cc
           there (Some f) e h = slice_get_within c.formals i f e
@@ -140,11 +143,14 @@ module _ (u : List ClassT) (order : List ℕ) (is : IsHierarchy u order) (define
         let b = constraint_closed u k i t (is.constraints k) e in
         both m (actual_at xs i) t a.0 b.0 a.1 b.1 (s.meet i t e)
       where
-        both : (m : Mark) (a b : TyT) → IsSomething a → IsSomething b → IsOf u 0 a → IsOf u 0 b → closed_conforms u a b ≡ true
+        both : (m : Mark) (a b : TyT) → IsSomething a → IsSomething b → IsOf u 0 a → IsOf u 0 b
+            → closed_conforms u a b ≡ true
             → closed_conforms u (marked m a) (marked m b) ≡ true
         both Plain a b p q f g h = h
-        both Attached (class_type c m ts) (class_type d n us) p q f g h = both_marked u Attached (class_type c m ts) (class_type d n us) h
-        both Detachable (class_type c m ts) (class_type d n us) p q f g h = both_marked u Detachable (class_type c m ts) (class_type d n us) h
+        both Attached (class_type c m ts) (class_type d n us) p q f g h = both_marked u Attached (class_type c m ts)
+            (class_type d n us) h
+        both Detachable (class_type c m ts) (class_type d n us) p q f g h = both_marked u Detachable
+            (class_type c m ts) (class_type d n us) h
         both Attached (formal_type i m) b p q f g h = absurd (omega arith)
         both Attached none_type b p q f g h = absurd p
         both Attached (class_type c m ts) (formal_type j n) p q f g h = absurd (omega arith)
@@ -162,7 +168,8 @@ module _ (u : List ClassT) (order : List ℕ) (is : IsHierarchy u order) (define
         let p = in_range k i (and_left (is_some (constraint u k i)) _ h) in
         let r = and_right (is_some (constraint u k i)) _ h in
         let q : j < formal_count u k = subst (λ j. j < formal_count u k) (eqb-true i j (and_left (i == j) _ r)) p in
-        closed_substituted u order is defined k k xs are (suit_meets u order is k xs s k) (formal_type i m) (formal_type j n) p q h
+        closed_substituted u order is defined k k xs are (suit_meets u order is k xs s k) (formal_type i m)
+        (formal_type j n) p q h
     closes (formal_type i m) (class_type d n us) h =
         let b = by_constraint u k i m d n us h in
         let c = constraint_closed u k i b.t (is.constraints k) b.is in
@@ -242,21 +249,25 @@ module _ (u : List ClassT) (order : List ℕ) (is : IsHierarchy u order) (define
         → (b : ℕ) (m : Mark) (ys : Actuals) → base_type u k t ≡ Some (class_type b m ys)
         → Over (system_over u) o.made b (put_in_all xs ys)
     base o (class_type d n ts) h b m ys e =
-        down o b m (put_in_all xs ys) (subst (λ t. closed_conforms u (type_of o) (put_in xs t) ≡ true) (same_Some _ _ e) h)
+        down o b m (put_in_all xs ys) (subst (λ t. closed_conforms u (type_of o) (put_in xs t) ≡ true)
+        (same_Some _ _ e) h)
     base o (formal_type i n) h b m ys e = by n (marked n (class_type b m ys)) refl
       where
         closed : IsOf u 0 (class_type b m ys)
         closed = (constraint_closed u k i (class_type b m ys) (is.constraints k) e).1
 
         further : closed_conforms u (type_of o) (marked n (class_type b m ys)) ≡ true
-        further = transitive (type_of o) (marked n (actual_at xs i)) (marked n (class_type b m ys)) h (meets i (class_type b m ys) n e)
+        further = transitive (type_of o) (marked n (actual_at xs i)) (marked n (class_type b m ys)) h (meets i
+            (class_type b m ys) n e)
 
         put : closed_conforms u (type_of o) (put_in xs (marked n (class_type b m ys))) ≡ true
         put =
             subst (λ t. closed_conforms u (type_of o) t ≡ true)
-            (sym (closed_put u xs (marked n (class_type b m ys)) (marked_of u 0 n (class_type b m ys) closed))) further
+            (sym (closed_put u xs (marked n (class_type b m ys)) (marked_of u 0 n
+            (class_type b m ys) closed))) further
 
-        by : (l : Mark) (t : TyT) → t ≡ marked n (class_type b m ys) → Over (system_over u) o.made b (put_in_all xs ys)
+        by : (l : Mark) (t : TyT) → t ≡ marked n (class_type b m ys)
+            → Over (system_over u) o.made b (put_in_all xs ys)
         by l t q = go n put
           where
             go : (l : Mark) → closed_conforms u (type_of o) (put_in xs (marked l (class_type b m ys))) ≡ true

@@ -8,5 +8,6 @@ use Rattle.eif_run_sound.specs.UniverseLaws.{OpenTypeLaws}
 
 abbrev pub TypesAreLawful : Type 0
 TypesAreLawful =
-    (u : List ClassT) (order : List ℕ) → IsHierarchy u order → Defined u → EachClause u (IsValidClause u)
+    (u : List ClassT) (order : List ℕ) → IsHierarchy u order → Defined u
+    → EachClause u (IsValidClause u)
     → KernelLaws (system_over u) → TypeLaws (system_over u) × OpenTypeLaws u
