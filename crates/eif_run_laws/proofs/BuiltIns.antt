@@ -102,7 +102,11 @@ module _ (c : Frame) (laws : TypeLaws c.system) (outs : OutGives c) (s : State) 
 
   answered_integer : (I : State → Type 0) (n : ℤ) → ((u : State) → I u → Begun u)
       → Keeps I (give_value (integer n)) (Answered (Some integer_type))
-  answered_integer I n f = answered I (integer n) integer_type (λ u i. (f u i, integer_fits system laws (heap_of u) n))
+  answered_integer I n f = answered I (integer n) integer_type (λ u i. (
+    f u i,
+    integer_fits system laws
+        (heap_of u) n,
+  ))
 
   -- ---- Current
 
@@ -121,7 +125,8 @@ module _ (c : Frame) (laws : TypeLaws c.system) (outs : OutGives c) (s : State) 
   class_of_object : (o : Object) (u : State) → is_final c.class_number ≡ true → Begun u
       → object_of (heap_of u) c.current ≡ Some o → o.made.class_number ≡ c.class_number
   class_of_object o u final i e =
-      let p = subst (λ (p : Object). Over system p.made c.class_number c.actuals) (some_is (sym i.1.there ∙ e)) i.1.over in
+      let p = subst (λ (p : Object). Over system p.made c.class_number c.actuals) (some_is
+      (sym i.1.there ∙ e)) i.1.over in
       laws.kernel.final o.made.class_number c.class_number p.derived final p.gives
 
   -- and the actuals of ARRAY on it
@@ -134,7 +139,8 @@ module _ (c : Frame) (laws : TypeLaws c.system) (outs : OutGives c) (s : State) 
 
   -- ---- content
 
-  replaced : (v : Value) (o : Object) (k : Content) (u : State) → Extends system s u → object_of (heap_of u) v ≡ Some o
+  replaced : (v : Value) (o : Object) (k : Content) (u : State) → Extends system s u
+      → object_of (heap_of u) v ≡ Some o
       → is_basic o.made.class_number ≡ false → ContentFits system (heap_of u) o.made k
       → Safe (replace_object v (with_content k o) u) (Ends (λ _ t. Extends system s t) u)
   replaced void o k u e at real fit = cc
@@ -192,7 +198,8 @@ module _ (c : Frame) (laws : TypeLaws c.system) (outs : OutGives c) (s : State) 
       (λ u i. let p = f u i in (
         p.0,
         λ q at xs over j v there.
-            subst (λ xs. Fits system (heap_of u) (actual_at xs 0) v) (sym (array_actuals q u xs e p.0 at over)) (p.1 j v there),
+            subst (λ xs. Fits system (heap_of u) (actual_at xs 0) v) (sym (array_actuals q u xs e p.0 at over))
+            (p.1 j v there),
       ))
 
   -- a value that stands in Current
@@ -212,8 +219,13 @@ module _ (c : Frame) (laws : TypeLaws c.system) (outs : OutGives c) (s : State) 
   write_ok I bytes f = record {
     by = λ u i.
         let e = f u i in
-        let g = grow_same (heap_of u) in
-        (g, ((extends_lasts system s).stays u (record u.store { printed = u.store.printed ++ bytes }) e g e.heap, tt));
+        let g = grow_same (heap_of u) in (
+          g,
+          (
+            (extends_lasts system s).stays u (record u.store { printed = u.store.printed ++ bytes }) e g e.heap,
+            tt,
+          ),
+        );
   }
 
   out_ok : (I : State → Type 0) → ((u : State) → I u → Begun u) → Keeps I (run_out c) (Answered (Some string_type))
@@ -238,10 +250,12 @@ module _ (c : Frame) (laws : TypeLaws c.system) (outs : OutGives c) (s : State) 
   abbrev Printed : Seen → State → Type 0
   Printed w u = Extends system s u × Fits system (heap_of u) string_type w.value
 
-  need_ok : (r : Option Seen) → Keeps (λ u. Extends system s u × Gives system (heap_of u) string_type r) (need r) Printed
+  need_ok : (r : Option Seen) → Keeps (λ u. Extends system s u
+      × Gives system (heap_of u) string_type r) (need r) Printed
   need_ok None = keeps_never _ _ _ (λ u i. i.1)
   need_ok (Some w) =
-      keeps_give (λ u. Extends system s u × Gives system (heap_of u) string_type (Some w)) w Printed (λ u i. (i.0, i.1.0))
+      keeps_give (λ u. Extends system s u × Gives system (heap_of u) string_type (Some w)) w Printed (λ u i.
+      (i.0, i.1.0))
 
   -- a later state, in which the printed value fits
   abbrev Prints : Value → State → Type 0
@@ -299,7 +313,8 @@ module _ (c : Frame) (laws : TypeLaws c.system) (outs : OutGives c) (s : State) 
   misfit b vs f = keeps_never (Begins b vs) _ _ f
 
   -- a query of a number of Current
-  counted : (b : BuiltIn) (f : Content → ℤ) → Keeps (Begins b []) (own_content c (λ k. give_value (integer (f k)))) (Answered (Some integer_type))
+  counted : (b : BuiltIn) (f : Content → ℤ) → Keeps (Begins b []) (own_content c (λ k. give_value (integer (f k))))
+      (Answered (Some integer_type))
   counted b f =
       own_ok (Begins b []) (Answered (Some integer_type)) _ (λ u i. i.0)
       (λ o. answered_integer (AtObject (Begins b []) o) (f o.content) (λ u i. i.0.0))
@@ -312,12 +327,14 @@ module _ (c : Frame) (laws : TypeLaws c.system) (outs : OutGives c) (s : State) 
       → ((n : ℤ) → Keeps (Begins b vs) (f n) (Answered (with_actuals c.actuals (signature_of b)).result))
       → Indexed b vs v f
   indexed b vs v f fit h =
-      by_integer system laws (Begins b vs) _ (given_lasts (with_actuals c.actuals (signature_of b)).arguments vs) v f fit h
+      by_integer system laws (Begins b vs) _ (given_lasts (with_actuals c.actuals
+      (signature_of b)).arguments vs) v f fit h
 
   string_holder : c.class_number ≡ string_number → IsHolder
   string_holder e = (ap is_final e, ap is_basic e)
 
-  byte_ok : (v : Value) (i : ℤ) → Keeps (Begins string_item (v ∷ [])) (own_content c (give_byte i)) (Answered (Some character_type))
+  byte_ok : (v : Value) (i : ℤ) → Keeps (Begins string_item (v ∷ [])) (own_content c (give_byte i)) (Answered
+      (Some character_type))
   byte_ok v i =
       own_ok (Begins string_item (v ∷ [])) (Answered (Some character_type)) (give_byte i) (λ u h. h.0)
       (λ o. keeps_or_stop (item_at (pos 1) o.content.bytes i) _ (AtObject (Begins string_item (v ∷ [])) o)
@@ -326,12 +343,14 @@ module _ (c : Frame) (laws : TypeLaws c.system) (outs : OutGives c) (s : State) 
 
   append_ok : (v : Value) → c.class_number ≡ string_number → Is append (v ∷ [])
   append_ok v e =
-      by_bytes system laws (Begins append (v ∷ [])) (Answered None) (given_lasts (string_type ∷ []) (v ∷ [])) v (append_bytes c)
+      by_bytes system laws (Begins append (v ∷ [])) (Answered None) (given_lasts (string_type ∷ []) (v ∷ [])) v
+      (append_bytes c)
       (λ u i. i.1.0)
       (λ bytes. own_ok (Begins append (v ∷ [])) (Answered None) _ (λ u i. i.0)
       (λ o. keeps_choice (nat_le (length (o.content.bytes ++ bytes)) most_items) _ _
       (AtObject (Begins append (v ∷ [])) o) (Answered None)
-      (λ q. set_bytes_ok (AtObject (Begins append (v ∷ [])) o) (o.content.bytes ++ bytes) (string_holder e) (λ u i. i.0.0))
+      (λ q. set_bytes_ok (AtObject (Begins append (v ∷ [])) o) (o.content.bytes ++ bytes) (string_holder e)
+      (λ u i. i.0.0))
       (λ q. keeps_stop _ (Answered None))))
 
   fill_ok : (v lo up : Value) (m : ℤ) (n : ℕ) → c.class_number ≡ array_number
@@ -339,7 +358,11 @@ module _ (c : Frame) (laws : TypeLaws c.system) (outs : OutGives c) (s : State) 
   fill_ok v lo up m n e =
       own_ok (Begins make_filled (v ∷ lo ∷ up ∷ [])) (Answered None) _ (λ u i. i.0)
       (λ o. set_values_ok (Begins make_filled (v ∷ lo ∷ up ∷ [])) o _ e
-      (λ u i. (i.0.0, λ j w at. subst (Fits system (heap_of u) (actual_at c.actuals 0)) (get_copy n v j w at) i.0.1.0)))
+      (λ u i. (
+        i.0.0,
+        λ j w at. subst (Fits system (heap_of u) (actual_at c.actuals 0))
+            (get_copy n v j w at) i.0.1.0,
+      )))
 
   filled_ok : (v lo up : Value) (m n : ℤ) → c.class_number ≡ array_number
       → Keeps (Begins make_filled (v ∷ lo ∷ up ∷ [])) (fill_between c v m n) (Answered None)
@@ -352,7 +375,8 @@ module _ (c : Frame) (laws : TypeLaws c.system) (outs : OutGives c) (s : State) 
       → Keeps (Begins array_item (v ∷ [])) (own_content c (give_item i)) (Answered (Some (actual_at c.actuals 0)))
   item_ok v i e =
       own_ok (Begins array_item (v ∷ [])) (Answered (Some (actual_at c.actuals 0))) (give_item i) (λ u h. h.0)
-      (λ o. keeps_or_stop (item_at o.content.lowest o.content.values i) give_value (AtObject (Begins array_item (v ∷ [])) o)
+      (λ o. keeps_or_stop (item_at o.content.lowest o.content.values i) give_value (AtObject (Begins array_item
+      (v ∷ [])) o)
       (Answered (Some (actual_at c.actuals 0)))
       (λ w at. let place = item_stands o.content.values (as_count (i -ℤ o.content.lowest)) w at in
       answered (AtObject (Begins array_item (v ∷ [])) o) w (actual_at c.actuals 0)
@@ -377,7 +401,8 @@ module _ (c : Frame) (laws : TypeLaws c.system) (outs : OutGives c) (s : State) 
       keeps_if ((n : ℕ) × (c.current ≡ character n)) (Begins code []) _ (Answered (Some integer_type))
       (λ u i. character_of system (heap_of u) c.current i.0.1.object i.0.0.heap i.0.1.there
       (class_of_object i.0.1.object u (ap is_final e) i.0 i.0.1.there ∙ e))
-      (λ n. subst (λ v. Keeps (Begins code []) (as_character v (λ n. give_value (integer (pos n)))) (Answered (Some integer_type)))
+      (λ n. subst (λ v. Keeps (Begins code []) (as_character v (λ n. give_value (integer (pos n)))) (Answered
+      (Some integer_type)))
       (sym n.1) (answered_integer (Begins code []) (pos n.0) (λ u i. i.0)))
 
   empty_ok : Is is_empty []
@@ -389,7 +414,8 @@ module _ (c : Frame) (laws : TypeLaws c.system) (outs : OutGives c) (s : State) 
   built_in_ok : (b : BuiltIn) (vs : List Value) → c.class_number ≡ class_with b → Is b vs
   built_in_ok do_nothing [] e = answered_none (Begins do_nothing []) (λ u i. i.0)
   built_in_ok out [] e = out_ok (Begins out []) (λ u i. i.0)
-  built_in_ok print (v ∷ []) e = keeps_pre (Begins print (v ∷ [])) _ _ (Answered None) (print_ok v) (λ u i. (i.0, i.1.0))
+  built_in_ok print (v ∷ []) e = keeps_pre (Begins print (v ∷ [])) _ _ (Answered None) (print_ok v) (λ u i.
+      (i.0, i.1.0))
   built_in_ok code [] e = code_ok e
   built_in_ok make_empty [] e = set_bytes_ok (Begins make_empty []) [] (string_holder e) (λ u i. i.0)
   built_in_ok string_count [] e = counted string_count (λ k. pos (length k.bytes))

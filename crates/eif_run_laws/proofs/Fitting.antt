@@ -25,7 +25,8 @@ as_object system h t (boolean b) n f = f
 as_object system h t (character i) n f = f
 as_object system h t (reference r) n f = f
 
-pub from_object : (system : System) (h : List Object) (t : TyT) (v : Value) → IsObject system h t v → Fits system h t v
+pub from_object : (system : System) (h : List Object) (t : TyT) (v : Value) → IsObject system h t v
+    → Fits system h t v
 from_object system h t void f = let e : None ≡ Some f.object = f.there in cc
 from_object system h t (integer i) f = f
 from_object system h t (boolean b) f = f
@@ -45,8 +46,10 @@ module _ (system : System) (laws : TypeLaws system) where
   fits_conforming h t u void c f = laws.void t u c f
   fits_conforming h t u (integer n) c f = object_fits system h t u (integer n) (λ o k. laws.transitive _ t u k c) f
   fits_conforming h t u (boolean b) c f = object_fits system h t u (boolean b) (λ o k. laws.transitive _ t u k c) f
-  fits_conforming h t u (character n) c f = object_fits system h t u (character n) (λ o k. laws.transitive _ t u k c) f
-  fits_conforming h t u (reference r) c f = object_fits system h t u (reference r) (λ o k. laws.transitive _ t u k c) f
+  fits_conforming h t u (character n) c f = object_fits system h t u (character n)
+      (λ o k. laws.transitive _ t u k c) f
+  fits_conforming h t u (reference r) c f = object_fits system h t u (reference r)
+      (λ o k. laws.transitive _ t u k c) f
 
   pub fits_attached : (h : List Object) (t : TyT) (v : Value) → is_void v ≡ false
       → Fits system h t v → Fits system h (attached_form t) v
@@ -66,7 +69,8 @@ module _ (system : System) (laws : TypeLaws system) where
         object = o;
         there = at;
         conforms =
-            subst (λ (c : ClassType). system.conforms (class_type c.class_number Attached c.actuals) (plain_type d) ≡ true)
+            subst (λ (c : ClassType). system.conforms (class_type c.class_number Attached c.actuals)
+            (plain_type d) ≡ true)
             (sym is) (laws.same (plain_object d no_content) made);
         complete = λ n t has.
             let none : None ≡ Some t =
@@ -75,10 +79,12 @@ module _ (system : System) (laws : TypeLaws system) where
       }
 
   pub integer_fits : (h : List Object) (n : ℤ) → Fits system h (plain_type integer_number) (integer n)
-  integer_fits h n = plain_fits h (integer n) (plain_object integer_number no_content) integer_number refl refl refl refl
+  integer_fits h n = plain_fits h (integer n) (plain_object integer_number no_content) integer_number refl refl refl
+      refl
 
   pub boolean_fits : (h : List Object) (b : Bool) → Fits system h (plain_type boolean_number) (boolean b)
-  boolean_fits h b = plain_fits h (boolean b) (plain_object boolean_number no_content) boolean_number refl refl refl refl
+  boolean_fits h b = plain_fits h (boolean b) (plain_object boolean_number no_content) boolean_number refl refl refl
+      refl
 
   pub character_fits : (h : List Object) (n : ℕ) → Fits system h (plain_type character_number) (character n)
   character_fits h n =

@@ -42,7 +42,11 @@ set_if false v o h = h
 pub grow_field : (h : List Object) (r : ℕ) (o : Object) (n : List ℕ) (v : Value) → slice_get h r ≡ Some o
     → Grow h (slice_set h r (with_field n v o))
 grow_field h r o n v e =
-    grow_replaced h r o (with_field n v o) e (record { made = refl; set = λ m s. set_if (bytes_eq m n) v (o.field m) s })
+    grow_replaced h r o (with_field n v o) e (record {
+      made = refl;
+      set = λ m s. set_if (bytes_eq m n) v
+          (o.field m) s;
+    })
 
 pub grow_content : (h : List Object) (r : ℕ) (o : Object) (k : Content) → slice_get h r ≡ Some o
     → Grow h (slice_set h r (with_content k o))

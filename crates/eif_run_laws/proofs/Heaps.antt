@@ -41,7 +41,8 @@ heap_replaced system h r o heap g s q p e =
     (λ there. sound_grown system h (slice_set h r o) p g (heap q p there)) s
 
 -- what a field begins with fits it
-field_starts : (system : System) (laws : TypeLaws system) (h : List Object) (xs : Actuals) (o : Option TyT) (v : Value)
+field_starts : (system : System) (laws : TypeLaws system) (h : List Object) (xs : Actuals) (o : Option TyT)
+    (v : Value)
     → option_and_then start o ≡ Some v → (t : TyT) × (o ≡ Some t) × Fits system h (put_in xs t) v
 field_starts system laws h xs None v e = cc
 field_starts system laws h xs (Some t) v e = (t, refl, start_fits system laws h xs t v e)

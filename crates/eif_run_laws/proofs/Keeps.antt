@@ -129,7 +129,10 @@ extends_same system s h = record { rest = refl; grown = grow_same (heap_of s); h
 pub by_extending : {A : Type 0} (system : System) (I : State → Type 0) (m : Does A) (J : A → State → Type 0)
     → Lasts system I → ((s : State) → I s → Safe (m s) (λ t a. Extends system s t × J a t))
     → Keeps I m (λ a t. I t × J a t)
-by_extending {A = A} system I m J l h = record { by = λ s i. safe_more (m s) _ _ (λ t a p. kept s t a i p.0 p.1) (h s i) }
+by_extending {A = A} system I m J l h = record {
+  by = λ s i. safe_more (m s) _ _ (λ t a p. kept s t a i p.0 p.1)
+      (h s i);
+}
   where
     kept : (s t : State) (a : A) → I s → Extends system s t → J a t → Ends (λ a t. I t × J a t) s t a
     kept s t a i e j = (e.grown, (subst I (sym e.rest) (l.stays s t.store i e.grown e.heap), j))

@@ -35,13 +35,15 @@ module _ (system : System) (laws : TypeLaws system) where
       → IsObject system h (plain_type d) v → o.made.class_number ≡ d
   class_is h d v o e at f =
       final_class system laws o d no_actuals e
-      (subst (λ (p : Object). system.conforms (type_of p) (plain_type d) ≡ true) (some_is (sym f.there ∙ at)) f.conforms)
+      (subst (λ (p : Object). system.conforms (type_of p) (plain_type d) ≡ true) (some_is
+      (sym f.there ∙ at)) f.conforms)
 
   no_reference : (h : List Object) (d r : ℕ) → is_final d ≡ true → is_basic d ≡ true → IsHeap system h
       → IsObject system h (plain_type d) (reference r) → ⊥
   no_reference h d r e b heap f =
       let q : true ≡ false =
-      sym b ∙ (ap is_basic (sym (class_is h d (reference r) f.object e f.there f)) ∙ (heap r f.object f.there).by_reference) in
+      sym b ∙ (ap is_basic (sym (class_is h d (reference r) f.object e f.there f)) ∙
+      (heap r f.object f.there).by_reference) in
       cc
 
   pub integer_is : (h : List Object) (v : Value) → IsHeap system h → Fits system h integer_type v
@@ -116,7 +118,8 @@ module _ (system : System) (laws : TypeLaws system) where
         (λ o. keeps_if (o.made.class_number ≡ string_number) (λ s. I s × (object_of (heap_of s) v ≡ Some o)) _ J
         (λ s i. let p = string_is (heap_of s) v (fit s i.0) in
         subst (λ (p : Object). p.made.class_number ≡ string_number) (some_is (sym p.1 ∙ i.1)) p.2)
-        (λ e. subst (λ k. Keeps (λ s. I s × (object_of (heap_of s) v ≡ Some o)) (if k == string_number then f o.content.bytes else fail no_feature) J) (sym e)
+        (λ e. subst (λ k. Keeps (λ s. I s × (object_of (heap_of s) v ≡ Some o))
+        (if k == string_number then f o.content.bytes else fail no_feature) J) (sym e)
         (keeps_pre _ I _ J (h o.content.bytes) (λ s i. i.0))))
 
   -- ---- what is given
@@ -181,10 +184,12 @@ module _ (system : System) (laws : TypeLaws system) where
     drop t u m h = keeps_pre (With t) (Extends system s) m (GivesLater u) h (λ x i. i.0)
 
     given_integer : (t : TyT) (n : ℤ) → Combines t (give_integer n) integer_type
-    given_integer t n = drop t integer_type (give_integer n) (gives_integer (Extends system s) (extends_lasts system s) n)
+    given_integer t n = drop t integer_type (give_integer n) (gives_integer (Extends system s)
+        (extends_lasts system s) n)
 
     given_boolean : (t : TyT) (b : Bool) → Combines t (give_boolean b) boolean_type
-    given_boolean t b = drop t boolean_type (give_boolean b) (gives_boolean (Extends system s) (extends_lasts system s) b)
+    given_boolean t b = drop t boolean_type (give_boolean b) (gives_boolean (Extends system s)
+        (extends_lasts system s) b)
 
     of_integers : (u : TyT) (f : ℤ → ℤ → Does (Option Seen)) → ((m n : ℤ) → Combines integer_type (f m n) u)
         → Combines integer_type (with_integers v w f) u
@@ -269,7 +274,8 @@ module _ (system : System) (laws : TypeLaws system) where
     add_bytes (reference r) = bytes_added (reference r)
 
     add_strings : Combines string_type (add v w) string_type
-    add_strings = keeps_pre (With string_type) (WithSame v) (add v w) (GivesLater string_type) (add_bytes v) (λ x i. (i, refl))
+    add_strings = keeps_pre (With string_type) (WithSame v) (add v w) (GivesLater string_type) (add_bytes v) (λ x i.
+        (i, refl))
 
     -- from the first state
     begin : (t u : TyT) (m : Does (Option Seen)) → IsHeap system (heap_of s) → BothFit system (heap_of s) t v w
@@ -305,13 +311,17 @@ module _ (system : System) (laws : TypeLaws system) where
           → (BothFit system (heap_of s) string_type v w × (u ≡ string_type))
           ⊎ (BothFit system (heap_of s) integer_type v w × (u ≡ integer_type))
           → Safe (add v w s) (EndsIn system u s)
-      added u (inl f) = of_type op.Plus string_type u f.1 (begin string_type string_type (add v w) heap f.0 add_strings)
-      added u (inr f) = of_type op.Plus integer_type u f.1 (begin integer_type integer_type (add v w) heap f.0 add_integers)
+      added u (inl f) = of_type op.Plus string_type u f.1 (begin string_type string_type
+          (add v w) heap f.0 add_strings)
+      added u (inr f) = of_type op.Plus integer_type u f.1 (begin integer_type integer_type
+          (add v w) heap f.0 add_integers)
 
       operate_ok : (o : Op) (t : TyT) → OperandsFit system (heap_of s) o v w t → Outcome o t
       operate_ok op.Plus t f = added t f
-      operate_ok op.Minus t f = of_type op.Minus integer_type t f.1 (numbers _ f.0 (λ m n. given_integer integer_type _))
-      operate_ok op.Times t f = of_type op.Times integer_type t f.1 (numbers _ f.0 (λ m n. given_integer integer_type _))
+      operate_ok op.Minus t f = of_type op.Minus integer_type t f.1 (numbers _ f.0
+          (λ m n. given_integer integer_type _))
+      operate_ok op.Times t f = of_type op.Times integer_type t f.1 (numbers _ f.0
+          (λ m n. given_integer integer_type _))
       operate_ok op.Divide t f = of_type op.Divide integer_type t f.1 (numbers _ f.0 (divides (int_wrapping_div w64)))
       operate_ok op.Modulo t f = of_type op.Modulo integer_type t f.1 (numbers _ f.0 (divides int_rem))
       operate_ok op.Power t f = of_type op.Power integer_type t f.1 (numbers _ f.0 powers)

@@ -33,7 +33,8 @@ OutGives c =
 -- a body ends in a state that extends the first one, and answers by its result type
 abbrev pub BodyEnds : Frame → BuiltIn → State → State → Option Value → Type 0
 BodyEnds c b s t a =
-    Extends c.system s t × Answers c.system (heap_of t) (with_actuals c.actuals (signature_of b)).result a
+    Extends c.system s t × Answers c.system (heap_of t) (with_actuals c.actuals
+    (signature_of b)).result a
 
 abbrev pub BuiltInsAnswer : Type 0
 BuiltInsAnswer =

@@ -16,7 +16,8 @@ use Rattle.eif_run_laws.specs.SystemLaws.{TypeLaws}
 pub record FittingStays : Type 0 where
   -- while the heap grows
   pub grown :
-      (system : System) (h k : List Object) (t : TyT) (v : Value) → Grow h k → Fits system h t v → Fits system k t v
+      (system : System) (h k : List Object) (t : TyT) (v : Value) → Grow h k → Fits system h t v
+      → Fits system k t v
   -- in a holder of a type to which the first conforms
   pub conforming :
       (system : System) → TypeLaws system → (h : List Object) (t u : TyT) (v : Value)
@@ -41,26 +42,30 @@ with_content k o = record o { content = k }
 -- the values of the content may stand in the object, if it is an ARRAY
 abbrev pub ContentFits : System → List Object → ClassType → Content → Type 0
 ContentFits system h t k =
-    (xs : Actuals) → Over system t array_number xs → (i : ℕ) (v : Value) → slice_get k.values i ≡ Some v
+    (xs : Actuals) → Over system t array_number xs → (i : ℕ) (v : Value)
+    → slice_get k.values i ≡ Some v
     → Fits system h (actual_at xs 0) v
 
 pub record HeapStays : Type 0 where
   -- with a new object
   pub created :
-      (system : System) → TypeLaws system → (h : List Object) (t : ClassType) → IsHeap system h → IsMade system t
+      (system : System) → TypeLaws system → (h : List Object) (t : ClassType) → IsHeap system h
+      → IsMade system t
       → is_basic t.class_number ≡ false → IsHeap system (h ++ new_object system t ∷ [])
   pub string :
       (system : System) → TypeLaws system → (h : List Object) (bytes : List ℕ) → IsHeap system h
       → IsHeap system (h ++ string_object bytes ∷ [])
   -- with another value in a field
   pub field :
-      (system : System) (h : List Object) (r : ℕ) (o : Object) (n : List ℕ) (t : TyT) (v : Value) → IsHeap system h
+      (system : System) (h : List Object) (r : ℕ) (o : Object) (n : List ℕ) (t : TyT) (v : Value)
+      → IsHeap system h
       → slice_get h r ≡ Some o → field_type system o.made.class_number n ≡ Some t
       → Fits system h (put_in o.made.actuals t) v → IsHeap system (slice_set h r (with_field n v o))
   -- with other content
   pub content :
       (system : System) (h : List Object) (r : ℕ) (o : Object) (k : Content) → IsHeap system h
-      → slice_get h r ≡ Some o → ContentFits system h o.made k → IsHeap system (slice_set h r (with_content k o))
+      → slice_get h r ≡ Some o → ContentFits system h o.made k
+      → IsHeap system (slice_set h r (with_content k o))
 
 -- and objects stay in it
 pub record ObjectsStay : Type 0 where
@@ -77,5 +82,6 @@ pub record ObjectsStay : Type 0 where
 -- each value but Void is an object of a class that may have instances, with actuals that suit it
 abbrev pub ObjectsAreMade : Type 0
 ObjectsAreMade =
-    (system : System) → TypeLaws system → (h : List Object) (v : Value) (o : Object) → IsHeap system h
+    (system : System) → TypeLaws system → (h : List Object) (v : Value) (o : Object)
+    → IsHeap system h
     → object_of h v ≡ Some o → IsMade system o.made

@@ -60,7 +60,8 @@ pub record IsSound (system : System) (heap : List Object) (o : Object) : Type 0 
   pub made : IsMade system o.made
   pub by_reference : is_basic o.made.class_number ≡ false
   pub fields : (n : List ℕ) (v : Value) → o.field n ≡ Some v
-      → (t : TyT) × (field_type system o.made.class_number n ≡ Some t) × Fits system heap (put_in o.made.actuals t) v
+      → (t : TyT) × (field_type system o.made.class_number n ≡ Some t)
+      × Fits system heap (put_in o.made.actuals t) v
   pub values : (xs : Actuals) → Over system o.made array_number xs → (i : ℕ) (v : Value)
       → slice_get o.content.values i ≡ Some v → Fits system heap (actual_at xs 0) v
 
@@ -74,4 +75,5 @@ pub record Stays (old new : Object) : Type 0 where
 
 -- objects stay under their references
 abbrev pub Grow : List Object → List Object → Type 0
-Grow old new = (r : ℕ) (o : Object) → slice_get old r ≡ Some o → (p : Object) × (slice_get new r ≡ Some p) × Stays o p
+Grow old new = (r : ℕ) (o : Object) → slice_get old r ≡ Some o
+    → (p : Object) × (slice_get new r ≡ Some p) × Stays o p

@@ -23,7 +23,8 @@ abbrev mutual
   -- without formals and NONE: each class is there, and has as many actuals as formals
   pub IsClosed : System → TyT → Type 0
   IsClosed system (class_type d m ts) =
-      (system.ancestry d d ≡ Some (system.formals d)) × (actual_count ts ≡ actual_count (system.formals d))
+      (system.ancestry d d ≡ Some (system.formals d))
+      × (actual_count ts ≡ actual_count (system.formals d))
       × AreClosed system ts
   IsClosed system (formal_type i m) = ⊥
   IsClosed system none_type = ⊥
@@ -36,7 +37,8 @@ abbrev mutual
 pub record Suit (system : System) (d : ℕ) (xs : Actuals) : Type 0 where
   pub closed : AreClosed system xs
   pub count : actual_count xs ≡ actual_count (system.formals d)
-  pub meet : (i : ℕ) (t : TyT) → system.constraint d i ≡ Some t → system.conforms (actual_at xs i) t ≡ true
+  pub meet : (i : ℕ) (t : TyT) → system.constraint d i ≡ Some t
+      → system.conforms (actual_at xs i) t ≡ true
 
 -- what an object may be made of
 pub record IsMade (system : System) (t : ClassType) : Type 0 where

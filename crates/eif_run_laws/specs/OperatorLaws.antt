@@ -42,7 +42,8 @@ BothFit system h t v w = Fits system h t v × Fits system h t w
 -- operands of the kinds that an operator takes, and the type of what it then gives
 abbrev pub OperandsFit : System → List Object → Op → Value → Value → TyT → Type 0
 OperandsFit system h op.Plus v w t =
-    (BothFit system h string_type v w × (t ≡ string_type)) ⊎ (BothFit system h integer_type v w × (t ≡ integer_type))
+    (BothFit system h string_type v w × (t ≡ string_type)) ⊎ (BothFit system h integer_type v w
+    × (t ≡ integer_type))
 OperandsFit system h op.Minus v w t = BothFit system h integer_type v w × (t ≡ integer_type)
 OperandsFit system h op.Times v w t = BothFit system h integer_type v w × (t ≡ integer_type)
 OperandsFit system h op.Divide v w t = BothFit system h integer_type v w × (t ≡ integer_type)
@@ -72,10 +73,12 @@ OperandFits system h _ v t = ⊥
 
 pub record OperatorsGive : Type 0 where
   pub two :
-      (system : System) → TypeLaws system → (o : Op) (v w : Value) (t : TyT) (s : State) → IsHeap system (heap_of s)
+      (system : System) → TypeLaws system → (o : Op) (v w : Value) (t : TyT) (s : State)
+      → IsHeap system (heap_of s)
       → OperandsFit system (heap_of s) o v w t → Safe (operate o v w s) (EndsIn system t s)
   pub one :
-      (system : System) → TypeLaws system → (o : Op) (v : Value) (t : TyT) (s : State) → IsHeap system (heap_of s)
+      (system : System) → TypeLaws system → (o : Op) (v : Value) (t : TyT) (s : State)
+      → IsHeap system (heap_of s)
       → OperandFits system (heap_of s) o v t → Safe (operate_one o v s) (EndsIn system t s)
 
 -- ---- values of the kernel
@@ -93,5 +96,6 @@ pub record BasicValues : Type 0 where
       → Fits system h character_type v → (n : ℕ) × (v ≡ character n)
   -- and what fits STRING is an object of STRING
   pub strings :
-      (system : System) → TypeLaws system → (h : List Object) (v : Value) → Fits system h string_type v
+      (system : System) → TypeLaws system → (h : List Object) (v : Value)
+      → Fits system h string_type v
       → (o : Object) × (object_of h v ≡ Some o) × (o.made.class_number ≡ string_number)

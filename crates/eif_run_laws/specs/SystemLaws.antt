@@ -23,13 +23,15 @@ pub record KernelLaws (system : System) : Type 0 where
   -- they have no fields
   pub fieldless : (d : ℕ) (n : List ℕ) → is_final d ≡ true → field_type system d n ≡ None
   -- those without formals may have instances
-  pub plain : (d : ℕ) → is_plain_kernel d ≡ true → IsMade system (record { class_number = d; actuals = no_actuals })
+  pub plain : (d : ℕ) → is_plain_kernel d ≡ true → IsMade system
+      (record { class_number = d; actuals = no_actuals })
 
 -- what is asked of conformance between closed types
 pub record TypeLaws (system : System) : Type 0 where
   pub kernel : KernelLaws system
   pub transitive :
-      (a b c : TyT) → system.conforms a b ≡ true → system.conforms b c ≡ true → system.conforms a c ≡ true
+      (a b c : TyT) → system.conforms a b ≡ true → system.conforms b c ≡ true
+      → system.conforms a c ≡ true
   pub void : (a b : TyT) → system.conforms a b ≡ true → takes_void a ≡ true → takes_void b ≡ true
   -- the type of an object conforms to itself
   pub same : (o : Object) → IsMade system o.made → system.conforms (type_of o) (type_of o) ≡ true

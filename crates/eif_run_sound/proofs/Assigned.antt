@@ -1,7 +1,7 @@
 -- Targets that are set.
-use Rattle.std.proofs.Common.{◌≡◌, ℕ, Bool, true, false, not, List, [], ◌∷◌, ◌++◌, Option, Some, None, refl, sym, ap, ap₂, subst, ◌∙◌, inl, inr, ⊎_elim}
-use Rattle.std.specs.Prelude.{◌⊎◌, ◌||◌, ◌&&◌, if◌then◌else◌, slice_get, slice_set}
-use Rattle.std.specs.Option.{option_map, option_map_or, option_and_then}
+use Rattle.std.proofs.Common.{◌≡◌, ℕ, Bool, true, false, not, List, [], ◌∷◌, ◌++◌, Option, Some, None, refl, sym, ap, subst, ◌∙◌, inr, ⊎_elim}
+use Rattle.std.specs.Prelude.{◌||◌, ◌&&◌, if◌then◌else◌, slice_set}
+use Rattle.std.specs.Option.{option_map, option_map_or}
 use Rattle.std.specs.Str.{bytes_eq}
 use Rattle.std.proofs.lemmas.Slice.Eq.{bytes_eq-Decides}
 use Rattle.eif_base.specs.Numbering.{is_among}
@@ -11,32 +11,31 @@ use Rattle.eif_tree.specs.Tree.{TypeT, ClassT}
 use Rattle.eif_classes.specs.Binding.{bind}
 use Rattle.eif_classes.specs.Entries.{Declaration, declared_as}
 use Rattle.eif_classes.specs.Features.{is_attribute, is_field, origin}
-use Rattle.eif_classes.specs.KernelNumbers.{is_basic, integer_number, boolean_number, character_number}
+use Rattle.eif_classes.specs.KernelNumbers.{integer_number, boolean_number, character_number}
 use Rattle.eif_classes.specs.Resolution.{resolved}
 use Rattle.eif_classes.specs.Signatures.{Signature, signature}
 use Rattle.eif_classes.specs.Types.{TyT, put_in, is_self_initialising}
 use Rattle.eif_system.specs.Lineage.{line_of}
 use Rattle.eif_body_rules.specs.Facts.{Fact, attached, usable, Usable, earlier, is_known_attached, usable_test, forgotten}
 use Rattle.eif_body_rules.specs.KnownFacts.{without, learned}
-use Rattle.eif_body_rules.specs.Settings.{Setting, Entity, entity_of, is_local, test_local, feature, unknown, or_feature, or_entity, or_test, meaning}
-use Rattle.eif_body_rules.specs.Settings as rules
+use Rattle.eif_body_rules.specs.Settings.{Setting, Entity, entity_of, is_local, or_feature, or_entity, or_test, meaning}
 use Rattle.eif_body_rules.specs.Targets.{is_attribute_name}
-use Rattle.eif_flow_rules.specs.FieldSets.{FieldSet, only, union, common}
-use Rattle.eif_flow_rules.specs.FlowSteps.{unless_hidden, target_flow}
+use Rattle.eif_flow_rules.specs.FieldSets.{FieldSet}
+use Rattle.eif_flow_rules.specs.FlowSteps.{target_flow}
 use Rattle.eif_flow_rules.specs.FlowTrees.{Flow, idle, sets}
 use Rattle.eif_flow_rules.specs.VersionFlows as flows
 use Rattle.eif_meaning.specs.Values.{Value, void, integer, boolean, character, reference, ClassType, Object, State, Seen, no_feature, after, give, some_or}
 use Rattle.eif_meaning.specs.System.{System, system_over}
-use Rattle.eif_meaning.specs.Objects.{set_at, field_type, no_content, plain_object, object_of, object_at, with_heap, replace_object}
+use Rattle.eif_meaning.specs.Objects.{set_at, field_type, object_of, with_heap, replace_object}
 use Rattle.eif_meaning.specs.Frames.{Frame, argument, local, entity}
 use Rattle.eif_meaning.specs.Frames as frames
 use Rattle.eif_meaning.specs.Calls.{is_void}
-use Rattle.eif_meaning.specs.Assignments.{set_result, set_local, with_field, set_field, set_entity, unless_bound, set_target}
+use Rattle.eif_meaning.specs.Assignments.{set_result, with_field, set_field, set_entity, unless_bound, set_target}
 use Rattle.eif_valid_bodies.specs.KnownStays.{Fewer}
 use Rattle.eif_valid_bodies.specs.SetReads as reads
 use Rattle.eif_valid_bodies.specs.ValidInstructions.{IsVariable, IsTargetBy, IsTarget}
-use Rattle.eif_run_laws.specs.Holders.{IsSet, Fits, IsHeap, Grow}
-use Rattle.eif_run_laws.specs.Steps.{Safe, heap_of, with_store}
+use Rattle.eif_run_laws.specs.Holders.{IsSet, Fits, Grow}
+use Rattle.eif_run_laws.specs.Steps.{Safe, heap_of}
 use Rattle.eif_run_laws.specs.SystemLaws.{is_final}
 use Rattle.eif_run_laws.proofs.Lists.{some_is, get_written}
 use Rattle.eif_run_laws.proofs.Growing.{grow_same, grow_field, fits_grown}
@@ -47,8 +46,8 @@ use Rattle.eif_run_sound.specs.Fields.{Ready, due}
 use Rattle.eif_run_sound.specs.Invariant.{held_by, held_in, DenotesNothing, Held, Good, Later}
 use Rattle.eif_run_sound.specs.UniverseLaws.{UniverseLaws}
 use Rattle.eif_run_sound.proofs.States.{or_cases, or_left, or_right, held_later, good_later}
-use Rattle.eif_run_sound.proofs.Flows.{and_left, and_right}
-use Rattle.eif_run_sound.proofs.Known.{Apart, held_none, held_both, held_fewer, true_or_false}
+use Rattle.eif_run_sound.proofs.Flows.{and_right}
+use Rattle.eif_run_sound.proofs.Known.{held_none, held_both, held_fewer, true_or_false}
 use Rattle.eif_run_sound.proofs.Entities.{entity_cases}
 use Rattle.eif_run_sound.proofs.Names.{no_entity_of}
 use Rattle.eif_run_sound.proofs.Tests.{same_name}
@@ -82,7 +81,8 @@ less_or : (gone : List ℕ → Bool) (y : List ℕ) (k : List Fact) (x : List �
 less_or gone y k x true h rest = or_right (bytes_eq y x) (is_known_attached k x) (rest h)
 less_or gone y k x false h rest =
     or_cases (bytes_eq y x) (is_known_attached (forgotten gone k) x) h
-    (λ q. or_left (bytes_eq y x) (is_known_attached k x) q) (λ q. or_right (bytes_eq y x) (is_known_attached k x) (rest q))
+    (λ q. or_left (bytes_eq y x) (is_known_attached k x) q) (λ q. or_right (bytes_eq y x) (is_known_attached k x)
+    (rest q))
 
 -- and no more than before is known of others
 forgotten_less : (gone : List ℕ → Bool) (k : List Fact) (x : List ℕ)
@@ -94,7 +94,8 @@ forgotten_less gone (usable y t ∷ k) x h = forgotten_less gone k x h
 forgotten_usable : (gone : List ℕ → Bool) (k : List Fact) (x : List ℕ)
     → usable_test (forgotten gone k) x ≡ usable_test k x
 forgotten_usable gone [] x = refl
-forgotten_usable gone (attached y ∷ k) x = kept_usable (not (gone y)) y (forgotten gone k) x ∙ forgotten_usable gone k x
+forgotten_usable gone (attached y ∷ k) x = kept_usable (not (gone y)) y
+    (forgotten gone k) x ∙ forgotten_usable gone k x
 forgotten_usable gone (usable y t ∷ k) x =
     ap (λ o. if bytes_eq y x then Some (earlier t o) else o) (forgotten_usable gone k x)
 
@@ -102,7 +103,8 @@ among_one : (x y : List ℕ) → x ≡ y → is_among (y ∷ []) x ≡ true
 among_one x y e = or_left (bytes_eq x y) false ((bytes_eq-Decides x y).1 e)
 
 -- another name than the one that is set is as much set as before
-other_set : (set : List (List ℕ)) (x y : List ℕ) (t : TyT) → bytes_eq y x ≡ false → reads.IsSet (x ∷ set) y t → reads.IsSet set y t
+other_set : (set : List (List ℕ)) (x y : List ℕ) (t : TyT) → bytes_eq y x ≡ false → reads.IsSet (x ∷ set) y t
+    → reads.IsSet set y t
 other_set set x y t e h = ap (λ b. is_self_initialising t || (b || is_among set y)) (sym e) ∙ h
 
 module _ (u : List ClassT) (laws : UniverseLaws u) (r : Running u) (lawful : IsWrittenRoutine u r) where
@@ -184,23 +186,28 @@ module _ (u : List ClassT) (laws : UniverseLaws u) (r : Running u) (lawful : IsW
 
   -- ---- the targets
 
-  module _ (k : List Fact) (set hidden : List (List ℕ)) (f : FieldSet) (x : NameAt) (t : TyT) (v : Value) (known : Bool)
-      (s : State) (g : Good u r k set f s) (hides : HidesNone u r hidden) (fits : Fits system (heap_of s) (closed r t) v)
+  module _ (k : List Fact) (set hidden : List (List ℕ)) (f : FieldSet) (x : NameAt) (t : TyT) (v : Value)
+      (known : Bool)
+      (s : State) (g : Good u r k set f s) (hides : HidesNone u r hidden) (fits : Fits system (heap_of s)
+      (closed r t) v)
       (something : known ≡ true → is_void v ≡ false) where
     abbrev flow : Flow
     flow = target_flow (meanings_of u r) hidden x
 
     -- the invariant holds with the target set
     abbrev IsSetIn : State → Type 0
-    IsSetIn w = Grow (heap_of s) (heap_of w) × Good u r (after_set k x.name known) (x.name ∷ set) (behind_on u r flow f) w
+    IsSetIn w = Grow (heap_of s) (heap_of w) × Good u r (after_set k x.name known) (x.name ∷ set)
+        (behind_on u r flow f) w
 
     abbrev SetEnds : State → Unit {0} → Type 0
     SetEnds w o = IsSetIn w
 
     idle_fields : (w : State) → signature u (line_of u class_of_text) x.name ≡ None
-        → Good u r (after_set k x.name known) (x.name ∷ set) f w → Good u r (after_set k x.name known) (x.name ∷ set) (behind_on u r flow f) w
+        → Good u r (after_set k x.name known) (x.name ∷ set) f w
+        → Good u r (after_set k x.name known) (x.name ∷ set) (behind_on u r flow f) w
     idle_fields w none good =
-        subst (λ m. Good u r (after_set k x.name known) (x.name ∷ set) (behind_on u r m f) w) (sym (idle_target hidden x none)) good
+        subst (λ m. Good u r (after_set k x.name known) (x.name ∷ set) (behind_on u r m f) w) (sym
+        (idle_target hidden x none)) good
 
     -- Result
     result_set : (a : TypeT) → r.declaration.tree.result_type ≡ Some a → written u r a ≡ t → x.name ≡ result_name
@@ -208,8 +215,10 @@ module _ (u : List ClassT) (laws : UniverseLaws u) (r : Running u) (lawful : IsW
     unfolding is_local
     result_set a is type name =
         let w = record s { result = Some v } in
-        let none = subst (λ n. signature u (line_of u class_of_text) n ≡ None) (sym name) (laws.features.no_result class_of_text) in
-        let no_local = is_local_none x.name (subst (λ n. entity r.declaration.tree n ≡ None) (sym name) lawful.no_result) in (
+        let none = subst (λ n. signature u (line_of u class_of_text) n ≡ None) (sym name)
+        (laws.features.no_result class_of_text) in
+        let no_local = is_local_none x.name (subst (λ n. entity r.declaration.tree n ≡ None)
+        (sym name) lawful.no_result) in (
           grow_same (heap_of s),
           idle_fields w none record {
             heap = g.heap;
@@ -221,7 +230,8 @@ module _ (u : List ClassT) (laws : UniverseLaws u) (r : Running u) (lawful : IsW
             locals = g.locals;
             locals_set = λ y b e sure. by_name y b e (bytes_eq y x.name) refl sure;
             result = λ b e z i. subst (Fits system (heap_of s) (closed r (written u r b))) (some_is i)
-                (subst (λ t. Fits system (heap_of s) (closed r t) v) (sym type ∙ ap (written u r) (some_is (sym is ∙ e))) fits);
+                (subst (λ t. Fits system (heap_of s) (closed r t) v) (sym type ∙ ap (written u r) (some_is
+                (sym is ∙ e))) fits);
             result_set = λ b e sure. tt;
             tests = g.tests;
             known = after_held k x.name known w (held_fewer u r (without S (x.name ∷ []) k) k w (less k x.name)
@@ -237,7 +247,8 @@ module _ (u : List ClassT) (laws : UniverseLaws u) (r : Running u) (lawful : IsW
             (λ a. ap (λ o. option_map_or (λ (e : Entity). e.is_local) o false) a.1) rest)
             (entity_cases u r.text r.declaration.tree y)
 
-        by_name : (y : List ℕ) (b : TypeT) → entity r.declaration.tree y ≡ Some (local b) → (i : Bool) → bytes_eq y x.name ≡ i
+        by_name : (y : List ℕ) (b : TypeT) → entity r.declaration.tree y ≡ Some (local b) → (i : Bool)
+            → bytes_eq y x.name ≡ i
             → reads.IsSet (x.name ∷ set) y (written u r b) → IsSet (s.local y)
         by_name y b e true i sure =
             let q : None ≡ Some (local b) =
@@ -262,30 +273,36 @@ module _ (u : List ClassT) (laws : UniverseLaws u) (r : Running u) (lawful : IsW
             locals = λ y b e z i. value_of y b e (bytes_eq y x.name) refl z i;
             locals_set = λ y b e sure. sure_of y b e (bytes_eq y x.name) refl sure;
             result = g.result;
-            result_set = λ b e sure. g.result_set b e (other_set set x.name result_name (written u r b) no_result sure);
+            result_set = λ b e sure. g.result_set b e (other_set set x.name result_name
+                (written u r b) no_result sure);
             tests = g.tests;
-            known = after_held k x.name known w kept (λ i j z e. subst (λ z. is_void z ≡ false) (some_is (sym (own refl) ∙ e)) (something j));
+            known = after_held k x.name known w kept (λ i j z e. subst (λ z. is_void z ≡ false) (some_is (sym
+                (own refl) ∙ e)) (something j));
           },
         )
       where
         -- what the local holds
-        own : bytes_eq x.name x.name ≡ bytes_eq x.name x.name → held_in u r (record s { local = set_at x.name (Some v) s.local }) x.name ≡ Some v
+        own : bytes_eq x.name x.name ≡ bytes_eq x.name x.name
+            → held_in u r (record s { local = set_at x.name (Some v) s.local }) x.name ≡ Some v
         own i =
             subst (λ o. held_by u r (record s { local = set_at x.name (Some v) s.local }) x.name o ≡ Some v)
             (sym is) (ap (λ b. if b then Some v else s.local x.name) ((bytes_eq-Decides x.name x.name).1 refl))
 
-        value_of : (y : List ℕ) (b : TypeT) → entity r.declaration.tree y ≡ Some (local b) → (i : Bool) → bytes_eq y x.name ≡ i
+        value_of : (y : List ℕ) (b : TypeT) → entity r.declaration.tree y ≡ Some (local b) → (i : Bool)
+            → bytes_eq y x.name ≡ i
             → (z : Value) → (if bytes_eq y x.name then Some v else s.local y) ≡ Some z
             → Fits system (heap_of s) (closed r (written u r b)) z
         value_of y b e true i z at =
-            let same : Some (local b) ≡ Some (local a) = sym e ∙ (ap (entity r.declaration.tree) (same_name y x.name i) ∙ is) in
+            let same : Some (local b) ≡ Some (local a) = sym e ∙ (ap (entity r.declaration.tree)
+            (same_name y x.name i) ∙ is) in
             let of_b : written u r b ≡ t = ap (type_by t) same ∙ type in
             subst (Fits system (heap_of s) (closed r (written u r b)))
             (some_is (ap (λ b. if b then Some v else s.local y) (sym i) ∙ at))
             (subst (λ t. Fits system (heap_of s) (closed r t) v) (sym of_b) fits)
         value_of y b e false i z at = g.locals y b e z (ap (λ b. if b then Some v else s.local y) (sym i) ∙ at)
 
-        sure_of : (y : List ℕ) (b : TypeT) → entity r.declaration.tree y ≡ Some (local b) → (i : Bool) → bytes_eq y x.name ≡ i
+        sure_of : (y : List ℕ) (b : TypeT) → entity r.declaration.tree y ≡ Some (local b) → (i : Bool)
+            → bytes_eq y x.name ≡ i
             → reads.IsSet (x.name ∷ set) y (written u r b) → IsSet (if bytes_eq y x.name then Some v else s.local y)
         sure_of y b e true i sure = subst (λ b. IsSet (if b then Some v else s.local y)) (sym i) tt
         sure_of y b e false i sure =
@@ -310,8 +327,10 @@ module _ (u : List ClassT) (laws : UniverseLaws u) (r : Running u) (lawful : IsW
           usable = λ y w b h e. g.known.usable y w b ((less k x.name).usable y w h) e;
         }
           where
-            by : (y : List ℕ) (i : Bool) → bytes_eq y x.name ≡ i → is_known_attached (without S (x.name ∷ []) k) y ≡ true
-                → (z : Value) → held_in u r (record s { local = set_at x.name (Some v) s.local }) y ≡ Some z → is_void z ≡ false
+            by : (y : List ℕ) (i : Bool) → bytes_eq y x.name ≡ i
+                → is_known_attached (without S (x.name ∷ []) k) y ≡ true
+                → (z : Value) → held_in u r (record s { local = set_at x.name (Some v) s.local }) y ≡ Some z
+                → is_void z ≡ false
             by y true i h z e =
                 let q : false ≡ true = sym (gone k x.name is_one)
                 ∙ (ap (is_known_attached (without S (x.name ∷ []) k)) (sym (same_name y x.name i)) ∙ h) in cc
@@ -322,12 +341,14 @@ module _ (u : List ClassT) (laws : UniverseLaws u) (r : Running u) (lawful : IsW
         (signed : signature u (line_of u class_of_text) x.name ≡ Some sg) (result : sg.result ≡ Some t)
         (none : entity r.declaration.tree x.name ≡ None) (no_result : bytes_eq result_name x.name ≡ false)
         (no_local : is_local S x.name ≡ false) where
-      abbrev bound : (n : List ℕ) × (type : TyT) × (bind (line_of u r.type.class_number) class_of_text x.name ≡ Some n)
+      abbrev bound : (n : List ℕ) × (type : TyT) × (bind (line_of u r.type.class_number) class_of_text x.name ≡ Some
+          n)
           × (version : Declaration)
           × (origin (line_of u r.type.class_number) n ≡ Some (declared_as version))
           × (is_attribute version.tree.kind ≡ true)
           × (field_type system r.type.class_number n ≡ Some type) × (put_in r.type.actuals type ≡ put_in r.actuals t)
-      bound = laws.features.field r.type r.made class_of_text r.actuals r.over S refl refl refl x.name sg t attribute_is signed result
+      bound = laws.features.field r.type r.made class_of_text r.actuals r.over S refl refl refl x.name sg t
+          attribute_is signed result
 
       abbrev n : List ℕ
       n = bound.0
@@ -374,22 +395,24 @@ module _ (u : List ClassT) (laws : UniverseLaws u) (r : Running u) (lawful : IsW
       more_set : (w : State) → Good u r k set f w → Held u r (after_set k x.name known) w
           → (a : Good u r k set f w) → Ready u (behind_on u r (sets n) f) a.object
           → Good u r (after_set k x.name known) (x.name ∷ set) (behind_on u r flow f) w
-      more_set w b held a ready = subst (λ m. Good u r (after_set k x.name known) (x.name ∷ set) (behind_on u r m f) w) (sym flow_is) record {
-        heap = a.heap;
-        object = a.object;
-        there = a.there;
-        made = a.made;
-        ready = ready;
-        arguments = a.arguments;
-        locals = a.locals;
-        locals_set = λ y b e sure. by y b e (bytes_eq y x.name) refl sure;
-        result = a.result;
-        result_set = λ b e sure. a.result_set b e (other_set set x.name result_name (written u r b) no_result sure);
-        tests = a.tests;
-        known = held;
-      }
+      more_set w b held a ready = subst (λ m. Good u r (after_set k x.name known) (x.name ∷ set)
+          (behind_on u r m f) w) (sym flow_is) record {
+            heap = a.heap;
+            object = a.object;
+            there = a.there;
+            made = a.made;
+            ready = ready;
+            arguments = a.arguments;
+            locals = a.locals;
+            locals_set = λ y b e sure. by y b e (bytes_eq y x.name) refl sure;
+            result = a.result;
+            result_set = λ b e sure. a.result_set b e (other_set set x.name result_name (written u r b) no_result sure);
+            tests = a.tests;
+            known = held;
+          }
         where
-          by : (y : List ℕ) (b : TypeT) → entity r.declaration.tree y ≡ Some (local b) → (i : Bool) → bytes_eq y x.name ≡ i
+          by : (y : List ℕ) (b : TypeT) → entity r.declaration.tree y ≡ Some (local b) → (i : Bool)
+              → bytes_eq y x.name ≡ i
               → reads.IsSet (x.name ∷ set) y (written u r b) → IsSet (w.local y)
           by y b e true i sure =
               let q : None ≡ Some (local b) =
@@ -414,13 +437,18 @@ module _ (u : List ClassT) (laws : UniverseLaws u) (r : Running u) (lawful : IsW
           (subst (λ t. Fits system (heap_of s) t v) (sym bound.7) fits) in
           let heap = heap_field system (heap_of s) q g.object n bound.1 v g.heap at field_is fit in
           let good = good_later u r k k set f [] s w g later heap
-          (λ y z e. let p = g.tests y z e in (fits_grown system (heap_of s) h (closed r z.type) z.value grown p.0, p.1))
+          (λ y z e. let p = g.tests y z e in (
+            fits_grown system (heap_of s) h
+                (closed r z.type) z.value grown p.0,
+            p.1,
+          ))
           (held_later u r k [] s w g.known later (λ y z e. refl)) in
           let same : good.object ≡ object =
           some_is (sym good.there ∙ (ap (object_of h) is ∙ get_written (heap_of s) q g.object object at)) in (
             grown,
             more_set w good
-                (after_held k x.name known w (held_fewer u r (without S (x.name ∷ []) k) k w (less k x.name) good.known)
+                (after_held k x.name known w (held_fewer u r (without S (x.name ∷ []) k) k w
+                (less k x.name) good.known)
                 (λ i j z e. let b : true ≡ false = sym i ∙ no_local in cc))
                 good (subst (Ready u (behind_on u r (sets n) f)) (sym same) object_ready),
           )
@@ -441,7 +469,8 @@ module _ (u : List ClassT) (laws : UniverseLaws u) (r : Running u) (lawful : IsW
     -- ---- which it is
 
     -- what is a feature or an entity is no bound test local
-    unless_test : (DenotesNothing u r x.name → ⊥) → Safe (set_entity c (entity r.declaration.tree x.name) x.name v s) SetEnds
+    unless_test : (DenotesNothing u r x.name → ⊥) → Safe (set_entity c
+        (entity r.declaration.tree x.name) x.name v s) SetEnds
         → Safe (unless_bound (s.test x.name) (set_entity c (entity r.declaration.tree x.name) x.name v) s) SetEnds
     unless_test n h = by (s.test x.name) refl
       where
@@ -459,7 +488,8 @@ module _ (u : List ClassT) (laws : UniverseLaws u) (r : Running u) (lawful : IsW
     is_local_of e at is = ap (λ o. option_map_or (λ (e : Entity). e.is_local) o false) at ∙ is
 
     -- by what its name denotes
-    variable_ok : (none : (e : Entity) → entity_of S x.name ≡ Some e → signature u (line_of u class_of_text) x.name ≡ None)
+    variable_ok : (none : (e : Entity) → entity_of S x.name ≡ Some e
+        → signature u (line_of u class_of_text) x.name ≡ None)
         → bytes_eq result_name x.name ≡ false → (o : Option Usable) (e : Option Entity) (sg : Option Signature)
         → usable_test k x.name ≡ o → entity_of S x.name ≡ e → signature u (line_of u class_of_text) x.name ≡ sg
         → IsVariable S x.name t (or_test (or_entity (or_feature sg) e) o)
@@ -496,7 +526,8 @@ module _ (u : List ClassT) (laws : UniverseLaws u) (r : Running u) (lawful : IsW
       where
         by : (i : Bool) → bytes_eq x.name result_name ≡ i → IsTargetBy i S k x.name t
             → Safe ((if i then set_result r.declaration.tree.result_type v
-            else (λ s. unless_bound (s.test x.name) (set_entity c (entity r.declaration.tree x.name) x.name v) s)) s) SetEnds
+            else (λ s. unless_bound (s.test x.name) (set_entity c
+            (entity r.declaration.tree x.name) x.name v) s)) s) SetEnds
         by true i target = result_ok r.declaration.tree.result_type refl target (same_name x.name result_name i)
         by false i target =
             variable_ok none (turned i) (usable_test k x.name) (entity_of S x.name)
@@ -505,5 +536,6 @@ module _ (u : List ClassT) (laws : UniverseLaws u) (r : Running u) (lawful : IsW
             turned : bytes_eq x.name result_name ≡ false → bytes_eq result_name x.name ≡ false
             turned i = ⊎_elim
                 (λ h. let q : true ≡ false =
-                sym ((bytes_eq-Decides x.name result_name).1 (sym ((bytes_eq-Decides result_name x.name).0 h))) ∙ i in cc)
+                sym ((bytes_eq-Decides x.name result_name).1 (sym ((bytes_eq-Decides result_name x.name).0 h))) ∙ i in
+                cc)
                 (λ h. h) (true_or_false (bytes_eq result_name x.name))

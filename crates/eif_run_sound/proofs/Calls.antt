@@ -1,46 +1,38 @@
 -- Bodies and fields on objects.
-use Rattle.std.proofs.Common.{◌≡◌, ℕ, ◌==◌, Bool, true, false, List, [], ◌∷◌, ◌++◌, map, flat_map, length, Option, Some, None, refl, sym, ap, ap₂, subst, ◌∙◌, inl, inr, ⊎_elim, arith}
-use Rattle.std.specs.Prelude.{◌⊎◌, ◌&&◌, if◌then◌else◌}
-use Rattle.std.specs.Option.{option_map, option_map_or, option_and_then}
-use Rattle.std.specs.Str.{bytes_eq}
-use Rattle.std.proofs.lemmas.Bool.{eq-eqb}
+use Rattle.std.proofs.Common.{◌≡◌, ℕ, true, false, List, [], ◌∷◌, Option, Some, None, refl, sym, ap, subst, ◌∙◌, ⊎_elim}
+use Rattle.std.specs.Prelude.{if◌then◌else◌}
+use Rattle.std.specs.Option.{option_map_or, option_and_then}
 use Rattle.std.proofs.lemmas.Slice.Eq.{bytes_eq-Decides}
 use Rattle.eif_base.specs.declared.place.Place.{Place}
-use Rattle.eif_tree.specs.Tree.{KindT, attribute, constant, deferred_body, routine, GroupT, DeclT, ClassT}
-use Rattle.eif_classes.specs.Ancestry.{ancestor}
+use Rattle.eif_tree.specs.Tree.{ClassT}
 use Rattle.eif_classes.specs.Binding.{bind}
-use Rattle.eif_classes.specs.Entries.{Declaration, Origin, declared_as}
+use Rattle.eif_classes.specs.Entries.{Declaration, declared_as}
 use Rattle.eif_classes.specs.Features.{is_attribute, is_field, origin}
-use Rattle.eif_classes.specs.Resolution.{resolved}
-use Rattle.eif_classes.specs.Signatures.{Signature, signature, declared_signature}
-use Rattle.eif_classes.specs.Types.{TyT, Actuals, put_in, put_in_all, is_self_initialising}
-use Rattle.eif_feature_rules.specs.DeclarationRules.{is_deferred_kind}
+use Rattle.eif_classes.specs.Signatures.{Signature, signature}
+use Rattle.eif_classes.specs.Types.{TyT, put_in, is_self_initialising}
 use Rattle.eif_system.specs.Lineage.{line_of}
 use Rattle.eif_body_rules.specs.Facts.{Fact}
-use Rattle.eif_flow_rules.specs.FieldSets.{FieldSet, only, union, common}
-use Rattle.eif_flow_rules.specs.FlowTrees.{Flow, idle, reads, calls}
-use Rattle.eif_flow_rules.specs.MetNeeds.{Within}
+use Rattle.eif_flow_rules.specs.FieldSets.{FieldSet}
+use Rattle.eif_flow_rules.specs.FlowTrees.{idle, reads, calls}
 use Rattle.eif_flow_rules.specs.Summaries.{summary}
-use Rattle.eif_flow_rules.specs.VersionFlows.{body_in, call_of, use_of}
-use Rattle.eif_meaning.specs.Values.{Value, void, integer, boolean, character, reference, ClassType, Object, Store, Seen, State, unset, no_feature, Outcome, wrong, done, Does, after, ◌>>=◌, give, some_or}
+use Rattle.eif_flow_rules.specs.VersionFlows.{call_of, use_of}
+use Rattle.eif_meaning.specs.Values.{Value, void, integer, boolean, character, reference, ClassType, Object, State, unset, no_feature, done, after, give, some_or}
 use Rattle.eif_meaning.specs.System.{System, declaration_in, system_over}
-use Rattle.eif_meaning.specs.Objects.{field_type, object_of, object_at}
-use Rattle.eif_meaning.specs.Frames.{Body, Runner, Frame, argument_names, is_routine, takes}
-use Rattle.eif_meaning.specs.Calls.{body_on, run_body, run_declaration, enter, read_field, use_feature, feature_on, feature_of, seen_as}
-use Rattle.eif_run_laws.specs.ObjectTypes.{IsMade, Over}
+use Rattle.eif_meaning.specs.Objects.{field_type, object_of}
+use Rattle.eif_meaning.specs.Frames.{Frame}
+use Rattle.eif_meaning.specs.Calls.{run_declaration, enter, read_field, use_feature, feature_on}
 use Rattle.eif_run_laws.specs.Holders.{IsSet, IsComplete, Fits, AllFit, Answers, IsHeap}
-use Rattle.eif_run_laws.specs.Steps.{Safe, heap_of, with_store, Extends}
+use Rattle.eif_run_laws.specs.Steps.{Safe, heap_of, Extends}
 use Rattle.eif_run_laws.proofs.Lists.{some_is}
 use Rattle.eif_run_laws.proofs.Growing.{object_stays}
-use Rattle.eif_run_laws.proofs.Fitting.{fits_conforming, object_made}
 use Rattle.eif_run_laws.proofs.Keeps.{safe_after, safe_more, extends_same}
-use Rattle.eif_run_sound.specs.Bodies.{IsRoutine, signature_on, flow_on, body_of, Enters, Leaves, Running, frame_of, meanings_of, closed}
+use Rattle.eif_run_sound.specs.Bodies.{flow_on, Leaves, Running, frame_of, meanings_of}
 use Rattle.eif_run_sound.specs.ExpressionRuns.{MetOn, behind_on}
 use Rattle.eif_run_sound.specs.Fields.{Ready, due, Met, behind}
-use Rattle.eif_run_sound.specs.Invariant.{Gives, Good}
-use Rattle.eif_run_sound.specs.UniverseLaws.{ResultFits, IsServed, IsReadAs, IsAnswered, all_closed, maybe_closed, UniverseLaws}
+use Rattle.eif_run_sound.specs.Invariant.{Good}
+use Rattle.eif_run_sound.specs.UniverseLaws.{IsServed, IsReadAs, IsAnswered, all_closed, maybe_closed, UniverseLaws}
 use Rattle.eif_run_sound.proofs.States.{or_cases, or_left, or_right, ready_stays}
-use Rattle.eif_run_sound.proofs.Flows.{and_left, and_right, and_both, flow_keeps, all_met}
+use Rattle.eif_run_sound.proofs.Flows.{and_both, all_met}
 use Rattle.eif_run_sound.proofs.Known.{true_or_false}
 use Rattle.eif_run_sound.proofs.Declarations.{declaration_ok}
 use Rattle.eif_run_sound.proofs.Types.{answers_fit}
@@ -233,7 +225,8 @@ module _ (u : List ClassT) (laws : UniverseLaws u) (r : Running u) where
         used_is p ∙ (use_is p
         ∙ ap (λ t. if t then reads p w.name else call_of p (Some (declared_as w.version))) e)
 
-    body_flow : (p : Place) → is_attribute w.version.tree.kind ≡ false → (meanings_of u r).used p x ≡ calls p w.version
+    body_flow : (p : Place) → is_attribute w.version.tree.kind ≡ false
+        → (meanings_of u r).used p x ≡ calls p w.version
     body_flow p e =
         used_is p ∙ (use_is p
         ∙ (ap (λ t. if t then reads p w.name else call_of p (Some (declared_as w.version))) e
@@ -242,7 +235,8 @@ module _ (u : List ClassT) (laws : UniverseLaws u) (r : Running u) where
     -- what the use of the name sets
     abbrev Used : Place → State → Option Value → Type 0
     Used p t a = Called result s t a
-        × ((o : Object) → object_of (heap_of t) r.current ≡ Some o → Ready u (behind_on u r ((meanings_of u r).used p x) f) o)
+        × ((o : Object) → object_of (heap_of t) r.current ≡ Some o
+        → Ready u (behind_on u r ((meanings_of u r).used p x) f) o)
 
     -- a field that is set
     field_is_set : (p : Place) (a : IsReadAs u r.type w.name w.version args result) → MetOn u r (reads p w.name) f
@@ -260,11 +254,17 @@ module _ (u : List ClassT) (laws : UniverseLaws u) (r : Running u) where
         → Safe (feature_on c r.current r.declaration.class_number x vs s) (Used p)
     used_field p a met =
         let flow = field_flow p a.is_field in
-        feature_by s g.heap r.current g.object g.there r.type g.made r.declaration.class_number x args result w vs (Used p)
-        (use_field s g.heap r.current g.object g.there r.type g.made r.declaration.class_number x args result w vs (Used p)
+        feature_by s g.heap r.current g.object g.there r.type g.made r.declaration.class_number x args result w vs
+        (Used p)
+        (use_field s g.heap r.current g.object g.there r.type g.made r.declaration.class_number x args result w vs
+        (Used p)
         a.is_field
         (safe_more (read_field g.object w.name vs s) (Called result s) (Used p)
-        (λ t b h. (h, λ o at. subst (λ m. Ready u (behind_on u r m f) o) (sym flow) (ready_later k set f s g t o h.0 at).0))
+        (λ t b h. (
+          h,
+          λ o at. subst (λ m. Ready u (behind_on u r m f) o) (sym flow)
+              (ready_later k set f s g t o h.0 at).0,
+        ))
         (read_ok s g.heap r.current g.object g.there r.type g.made w.name w.version args result vs a fit
         (field_is_set p a (subst (λ m. MetOn u r m f) flow met)))))
 
@@ -273,8 +273,10 @@ module _ (u : List ClassT) (laws : UniverseLaws u) (r : Running u) where
         → Safe (feature_on c r.current r.declaration.class_number x vs s) (Used p)
     used_body p a met =
         let flow = body_flow p a.routine.no_field in
-        feature_by s g.heap r.current g.object g.there r.type g.made r.declaration.class_number x args result w vs (Used p)
-        (use_body s g.heap r.current g.object g.there r.type g.made r.declaration.class_number x args result w vs (Used p)
+        feature_by s g.heap r.current g.object g.there r.type g.made r.declaration.class_number x args result w vs
+        (Used p)
+        (use_body s g.heap r.current g.object g.there r.type g.made r.declaration.class_number x args result w vs
+        (Used p)
         a.routine.no_field
         (safe_more (enter c r.current w.version vs s) _ (Used p)
         (λ t b h. (h.0, λ o at. subst (λ m. Ready u (behind_on u r m f) o) (sym flow) (h.1 o at)))

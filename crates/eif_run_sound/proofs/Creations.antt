@@ -8,7 +8,6 @@ use Rattle.eif_tree.specs.declared.tree.NameAt.{NameAt}
 use Rattle.eif_tree.specs.Tree.{ClassT}
 use Rattle.eif_classes.specs.Constraints.{class_in}
 use Rattle.eif_classes.specs.Creators.{default_creator, is_creator_for}
-use Rattle.eif_classes.specs.Features.{origin}
 use Rattle.eif_classes.specs.KernelNumbers.{is_basic}
 use Rattle.eif_classes.specs.Resolution.{actuals_in}
 use Rattle.eif_classes.specs.Signatures.{Signature, signature, with_actuals}
@@ -19,32 +18,30 @@ use Rattle.eif_body_rules.specs.CallRules.{Argument}
 use Rattle.eif_body_rules.specs.CreationRules.{Creation, is_deferred}
 use Rattle.eif_body_rules.specs.Settings.{Setting}
 use Rattle.eif_flow_rules.specs.FieldSets.{no_fields}
-use Rattle.eif_meaning.specs.Values.{Value, reference, ClassType, Object, Seen, State, no_feature, ◌>>=◌, give, some_or, fail}
+use Rattle.eif_meaning.specs.Values.{Value, reference, ClassType, Object, Seen, State, no_feature, give, some_or, fail}
 use Rattle.eif_meaning.specs.System.{System, declaration_in, system_over}
-use Rattle.eif_meaning.specs.Objects.{start, start_value, field_type, type_of, new_object, object_of, with_heap, allocate}
+use Rattle.eif_meaning.specs.Objects.{start, start_value, field_type, type_of, new_object, object_of, with_heap}
 use Rattle.eif_meaning.specs.Frames.{Frame}
 use Rattle.eif_meaning.specs.Operands.{give_seen}
-use Rattle.eif_meaning.specs.Calls.{unmarked, enter}
+use Rattle.eif_meaning.specs.Calls.{enter}
 use Rattle.eif_meaning.specs.Creations.{creator_name, make_by, make_of, create_object}
 use Rattle.eif_meaning.specs.Evaluation.{written_name}
 use Rattle.eif_valid_bodies.specs.ValidNodes.{IsCreated}
 use Rattle.eif_run_laws.specs.ObjectTypes.{IsMade}
-use Rattle.eif_run_laws.specs.Holders.{IsSet, IsComplete, Fits, AllFit, Grow, IsHeap}
-use Rattle.eif_run_laws.specs.Steps.{Safe, heap_of, with_store, Extends}
+use Rattle.eif_run_laws.specs.Holders.{IsSet, IsComplete, AllFit, IsHeap}
+use Rattle.eif_run_laws.specs.Steps.{Safe, heap_of, Extends}
 use Rattle.eif_run_laws.proofs.Lists.{some_is, get_new}
 use Rattle.eif_run_laws.proofs.Growing.{grow_added, grow_on, object_stays, all_grown}
 use Rattle.eif_run_laws.proofs.Fitting.{from_object, object_made}
 use Rattle.eif_run_laws.proofs.Heaps.{heap_created}
-use Rattle.eif_run_laws.proofs.Keeps.{safe_more, extends_lasts}
 use Rattle.eif_run_sound.specs.Bodies.{Running, frame_of, setting_of, flow_on, closed}
 use Rattle.eif_run_sound.specs.ExpressionRuns.{types_of}
-use Rattle.eif_run_sound.specs.Fields.{Ready, due, Met, behind}
-use Rattle.eif_run_sound.specs.Invariant.{Shows, Gives, Good}
+use Rattle.eif_run_sound.specs.Fields.{Ready, behind}
+use Rattle.eif_run_sound.specs.Invariant.{Shows, Gives}
 use Rattle.eif_run_sound.specs.UniverseLaws.{IsTypeIn, IsCreator, all_closed, UniverseLaws}
 use Rattle.eif_run_sound.proofs.States.{or_left, or_right, chain}
 use Rattle.eif_run_sound.proofs.Known.{true_or_false}
 use Rattle.eif_run_sound.proofs.Types.{suit, all_fit, closed_list}
-use Rattle.eif_run_sound.proofs.Names.{closed_attached, attached_twice}
 use Rattle.eif_run_sound.proofs.Calls.{enter_ok}
 
 get_within : {A : Type 0} (xs : List A) (i : ℕ) → i < length xs → (x : A) × (slice_get xs i ≡ Some x)
@@ -99,29 +96,40 @@ module _ (u : List ClassT) (laws : UniverseLaws u) (r : Running u) where
 
       -- a later state, in which the object has no unset field
       abbrev Made : State → Value → Type 0
-      Made v a = Extends system s v × (o : Object) × (object_of (heap_of v) a ≡ Some o) × (o.made ≡ t) × IsComplete system o
+      Made v a = Extends system s v × (o : Object) × (object_of (heap_of v) a ≡ Some o) × (o.made ≡ t)
+          × IsComplete system o
 
       begun : Extends system s first
-      begun = record { rest = refl; grown = grow_added (heap_of s) new; heap = heap_created system laws.types (heap_of s) t heap made real }
+      begun = record {
+        rest = refl;
+        grown = grow_added (heap_of s) new;
+        heap = heap_created system laws.types
+            (heap_of s) t heap made real;
+      }
 
       complete : (o : Object) → o.made ≡ t
-          → Ready u (behind u o.made.class_number (flow_on u o.made.class_number w.version) no_fields) o → IsComplete system o
+          → Ready u (behind u o.made.class_number (flow_on u o.made.class_number w.version) no_fields) o
+          → IsComplete system o
       complete o is ready m a e = ready m a e (set_by (true_or_false (is_self_initialising a)))
         where
           set_by : (is_self_initialising a ≡ true) ⊎ (is_self_initialising a ≡ false)
-              → (is_self_initialising a || behind u o.made.class_number (flow_on u o.made.class_number w.version) no_fields m) ≡ true
+              → (is_self_initialising a || behind u o.made.class_number
+              (flow_on u o.made.class_number w.version) no_fields m) ≡ true
           set_by (inl q) = or_left (is_self_initialising a) _ q
           set_by (inr q) =
               or_right (is_self_initialising a) _
-              (subst (λ (t : ClassType). behind u t.class_number (flow_on u t.class_number w.version) no_fields m ≡ true) (sym is)
+              (subst (λ (t : ClassType). behind u t.class_number
+              (flow_on u t.class_number w.version) no_fields m ≡ true) (sym is)
               (w.sets_all m (laws.creation.due_or_set t.class_number m a
               (ap (λ (t : ClassType). field_type system t.class_number m) (sym is) ∙ e) q)))
 
       pub made_by : Safe (make_by c t vs w.version s) Made
       made_by =
           chain (enter c place w.version vs) (λ _. give place) first _ Made
-          (enter_ok u laws r first begun.heap place new (get_new (heap_of s) new) t refl w.version args None vs no_fields
-          w.serves (all_grown system (heap_of s) new_heap args vs begun.grown fit) (λ m a e h. new_ready system t m a e h) w.met)
+          (enter_ok u laws r first begun.heap place new (get_new
+          (heap_of s) new) t refl w.version args None vs no_fields
+          w.serves (all_grown system (heap_of s) new_heap args vs begun.grown fit)
+          (λ m a e h. new_ready system t m a e h) w.met)
           (λ v a h.
           let later = extends_later v h.0.0 in
           let p = object_stays new_heap (heap_of v) h.0.0.grown place new (get_new (heap_of s) new) in
@@ -138,7 +146,8 @@ module _ (u : List ClassT) (laws : UniverseLaws u) (r : Running u) where
           → creator_name c t.class_number f ≡ Some n → Safe (make_of c f vs t s) Made
       made_of f creatable named =
           subst (λ b. Safe ((if b then some_or no_feature (creator_name c t.class_number f)
-          (λ n. some_or no_feature (system.origin t.class_number n) (make_by c t vs)) else fail no_feature) s) Made) (sym creatable)
+          (λ n. some_or no_feature (system.origin t.class_number n) (make_by c t vs)) else fail no_feature) s) Made)
+          (sym creatable)
           (subst (λ o. Safe (some_or no_feature o
           (λ n. some_or no_feature (system.origin t.class_number n) (make_by c t vs)) s) Made) (sym named)
           (subst (λ o. Safe (some_or no_feature o (make_by c t vs) s) Made)
@@ -153,13 +162,18 @@ module _ (u : List ClassT) (laws : UniverseLaws u) (r : Running u) where
     created_shown : (d : ℕ) (m : Mark) (ys : Actuals) (v : State) (a : Value) (o : Object) → IsHeap system (heap_of v)
         → object_of (heap_of v) a ≡ Some o → o.made ≡ record { class_number = d; actuals = put_in_all r.actuals ys }
         → IsComplete system o
-        → Shows u r (heap_of v) (attached_form (class_type d m ys)) (record { value = a; type = attached_form (class_type d m ys) })
+        → Shows u r (heap_of v) (attached_form (class_type d m ys)) (record {
+          value = a;
+          type = attached_form
+              (class_type d m ys);
+        })
     created_shown d m ys v a o heap there is complete = record {
       fits = from_object system (heap_of v) (class_type d Attached (put_in_all r.actuals ys)) a record {
         object = o;
         there = there;
         conforms =
-            subst (λ (t : ClassType). system.conforms (type_of o) (class_type t.class_number Attached t.actuals) ≡ true) is
+            subst (λ (t : ClassType). system.conforms (type_of o)
+            (class_type t.class_number Attached t.actuals) ≡ true) is
             (laws.types.same o (object_made system laws.types (heap_of v) a o heap there));
         complete = complete;
       };
@@ -175,7 +189,8 @@ module _ (u : List ClassT) (laws : UniverseLaws u) (r : Running u) where
     module _ (d : ℕ) (m : Mark) (ys : Actuals) (typed : IsTypeIn u class_of_text (class_type d m ys))
         (deferred : is_deferred S d ≡ false) (real : is_basic d ≡ false) (n : List ℕ) (g : Signature)
         (one : is_creator_for u (line_of u d) n class_of_text ≡ true) (found : signature u (line_of u d) n ≡ Some g)
-        (vs : List Value) (fit : AllFit system (heap_of s) (all_closed (put_in_all r.actuals ys) g.arguments) vs) where
+        (vs : List Value) (fit : AllFit system (heap_of s) (all_closed
+        (put_in_all r.actuals ys) g.arguments) vs) where
       text : (x : ClassT) × (slice_get u d ≡ Some x)
       text = get_within u d typed.0.0
 
@@ -199,8 +214,10 @@ module _ (u : List ClassT) (laws : UniverseLaws u) (r : Running u) where
       class_created o named =
           let w = laws.creation.creators type_made made real class_of_text n g one found in
           chain (make_of c (written_name o) vs type_made) (λ v. give_seen v (attached_form (class_type d m ys))) s
-          (Made type_made made real n (all_closed type_made.actuals g.arguments) w vs fit) (CreatedAs (class_type d m ys))
-          (made_of type_made made real n (all_closed type_made.actuals g.arguments) w vs fit (written_name o) creatable
+          (Made type_made made real n (all_closed type_made.actuals g.arguments) w vs fit) (CreatedAs
+          (class_type d m ys))
+          (made_of type_made made real n (all_closed type_made.actuals g.arguments) w vs fit
+          (written_name o) creatable
           (name_is d n o named))
           (λ v a h. (h.0, created_shown d m ys v a h.1 h.0.heap h.2 h.3 h.4))
 
@@ -211,14 +228,17 @@ module _ (u : List ClassT) (laws : UniverseLaws u) (r : Running u) where
         let t = class_type_is k.type i.class i.class_is in
         let m = t.0 in let ys = t.1 in
         let found = ap (λ o. signature u (line_by (line_of u) o) i.creator) (sym i.class_is) ∙ i.found in
-        let one = ap (λ o. is_creator_for u (line_by (line_of u) o) i.creator class_of_text) (sym i.class_is) ∙ i.is_one in
+        let one = ap (λ o. is_creator_for u (line_by (line_of u) o) i.creator class_of_text)
+        (sym i.class_is) ∙ i.is_one in
         let named = ap (λ o. option_or (option_map (λ n. n.name) k.creator) (default_creator (line_by (line_of u) o)))
         (sym i.class_is) ∙ i.named in
         let args_fit : AllFit system (heap_of s) (all_closed (put_in_all r.actuals ys) i.signed.arguments) vs =
         subst (λ ts. AllFit system (heap_of s) ts vs)
         (ap (λ t. map (closed r) (map (put_in (actuals_in t)) i.signed.arguments)) t.2
         ∙ closed_list u laws r (put_in_all r.actuals ys) (put_in ys) (put_put ys r.actuals) i.signed.arguments)
-        (all_fit u laws r (heap_of s) args (with_actuals (actuals_in k.type) i.signed).arguments vs i.called.fit fit) in
+        (all_fit u laws r (heap_of s) args (with_actuals (actuals_in k.type) i.signed).arguments vs i.called.fit fit)
+        in
         subst (λ t. Safe (create_object c (written_name k.creator) vs t s) (CreatedAs t)) (sym t.2)
-        (class_created i.class m ys (subst (IsTypeIn u class_of_text) t.2 typed) i.effective i.reference i.creator i.signed
+        (class_created i.class m ys (subst (IsTypeIn u class_of_text) t.2 typed) i.effective i.reference i.creator
+        i.signed
         one found vs args_fit k.creator named)

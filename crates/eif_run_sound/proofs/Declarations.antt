@@ -1,6 +1,6 @@
 -- Calls of declarations on values.
-use Rattle.std.proofs.Common.{◌≡◌, ℕ, ◌==◌, Bool, true, false, List, [], ◌∷◌, ◌++◌, map, flat_map, length, Option, Some, None, refl, sym, ap, subst, ◌∙◌, arith}
-use Rattle.std.specs.Prelude.{◌&&◌, if◌then◌else◌}
+use Rattle.std.proofs.Common.{◌≡◌, true, false, List, [], ◌∷◌, ◌++◌, map, flat_map, length, Option, Some, refl, sym, ap, subst, ◌∙◌, arith}
+use Rattle.std.specs.Prelude.{if◌then◌else◌}
 use Rattle.std.specs.Option.{option_map, option_and_then}
 use Rattle.std.proofs.lemmas.Bool.{eq-eqb}
 use Rattle.eif_tree.specs.Tree.{KindT, attribute, constant, deferred_body, routine, GroupT, ClassT}
@@ -52,12 +52,14 @@ routine_is (constant x) e f = refl
 routine_is deferred_body e f = cc
 routine_is (routine locals body) e f = refl
 
-module _ (u : List ClassT) (again : Runner) (runs : RunsBodies u again) (s : Store) (heap : IsHeap (system_over u) s.heap)
+module _ (u : List ClassT) (again : Runner) (runs : RunsBodies u again) (s : Store) (heap : IsHeap
+    (system_over u) s.heap)
     (v : Value) (o : Object) (there : object_of s.heap v ≡ Some o) (ty : ClassType) (is : o.made ≡ ty) where
   abbrev system : System
   system = system_over u
 
-  taken : (y : Declaration) (args : List TyT) (result : Option TyT) (vs : List Value) (w : IsServed u ty y args result)
+  taken : (y : Declaration) (args : List TyT) (result : Option TyT) (vs : List Value)
+      (w : IsServed u ty y args result)
       → AllFit system s.heap args vs → takes y.tree vs ≡ true
   taken y args result vs w fit =
       let ts = (declared_signature u w.routine.text y.tree).arguments in

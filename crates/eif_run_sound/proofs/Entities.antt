@@ -1,7 +1,6 @@
 -- Arguments and locals, as rules and runs find them.
-use Rattle.std.proofs.Common.{◌≡◌, ℕ, Bool, true, false, List, [], ◌∷◌, ◌++◌, map, flat_map, Option, Some, None, refl, sym, ap, subst, ◌∙◌, inl, inr, ⊎_elim}
+use Rattle.std.proofs.Common.{◌≡◌, ℕ, Bool, true, false, List, [], ◌∷◌, ◌++◌, map, Option, Some, None, refl, sym, ap, subst, ◌∙◌, inl, inr, ⊎_elim}
 use Rattle.std.specs.Prelude.{◌⊎◌, ◌||◌, cond, find}
-use Rattle.std.specs.List.{list_any}
 use Rattle.std.specs.Option.{option_map}
 use Rattle.std.specs.Str.{bytes_eq}
 use Rattle.eif_tree.specs.declared.tree.NameAt.{NameAt}
@@ -12,7 +11,7 @@ use Rattle.eif_classes.specs.Resolution.{resolved}
 use Rattle.eif_classes.specs.Types.{TyT}
 use Rattle.eif_body_rules.specs.EntityRules.{entity_at, entities_of, arguments_of, locals_of}
 use Rattle.eif_body_rules.specs.Settings as rules
-use Rattle.eif_meaning.specs.Frames.{type_in, entity_by, Entity, argument, local, entity}
+use Rattle.eif_meaning.specs.Frames.{type_in, entity_by, argument, local, entity}
 
 pub append_assoc : {A : Type 0} (xs ys zs : List A) → (xs ++ ys) ++ zs ≡ xs ++ (ys ++ zs)
 append_assoc [] ys zs = refl
@@ -45,7 +44,8 @@ module _ (u : List ClassT) (c : ClassT) where
   in_group : (b : Bool) (t : TyT) (ns : List NameAt) (x : List ℕ) (rest : List rules.Entity) → InGroup b t ns x rest
   in_group b t [] x rest = inr (refl, refl)
   in_group b t (n ∷ ns) x rest =
-      found_or b (bytes_eq n.name x) t n (has_name ns x) (first_of (map (entity_at b t) ns ++ rest) x) (first_of rest x)
+      found_or b (bytes_eq n.name x) t n (has_name ns x) (first_of (map (entity_at b t) ns ++ rest) x)
+      (first_of rest x)
       (in_group b t ns x rest)
 
   abbrev InGroups : Bool → List GroupT → List ℕ → List rules.Entity → Type 0

@@ -1,7 +1,6 @@
 -- Expressions without faults.
-use Rattle.std.proofs.Common.{◌≡◌, ℕ, Bool, true, false, not, List, [], ◌∷◌, ◌++◌, map, Option, Some, None, refl, sym, ap, subst, ◌∙◌, inl, inr, ⊎_elim}
-use Rattle.std.specs.Prelude.{◌⊎◌, ◌||◌, ◌&&◌, if◌then◌else◌}
-use Rattle.std.specs.Bool.{beq}
+use Rattle.std.proofs.Common.{◌≡◌, ℕ, Bool, true, false, not, List, [], ◌∷◌, ◌++◌, map, Option, Some, None, refl, sym, ap, subst, ◌∙◌, inl, inr}
+use Rattle.std.specs.Prelude.{◌⊎◌, ◌||◌, if◌then◌else◌}
 use Rattle.std.specs.Option.{option_map, option_map_or, option_and_then}
 use Rattle.eif_base.specs.declared.place.Place.{Place}
 use Rattle.eif_base.specs.Numbering.{is_among}
@@ -11,14 +10,13 @@ use Rattle.eif_tree.specs.declared.tree.Literal.TheVariants as lit
 use Rattle.eif_tree.specs.declared.tree.NameAt.{NameAt}
 use Rattle.eif_tree.specs.declared.tree.Op.{Op}
 use Rattle.eif_tree.specs.declared.tree.Op.TheVariants as op
-use Rattle.eif_tree.specs.Tree.{TypeT, Ex, literal, void_value, current_value, result_value, unqualified, precursor, qualified, creation, test, paren, unary, binary, Exs, no_exs, and_ex, ClassT}
-use Rattle.eif_classes.specs.Entries.{Declaration, declared_as}
+use Rattle.eif_tree.specs.Tree.{Ex, literal, void_value, current_value, result_value, unqualified, precursor, qualified, creation, test, paren, unary, binary, Exs, no_exs, and_ex, ClassT}
+use Rattle.eif_classes.specs.Entries.{Declaration}
 use Rattle.eif_classes.specs.Precursors as versions
-use Rattle.eif_classes.specs.Resolution.{own_type}
-use Rattle.eif_classes.specs.Signatures.{Signature, SignedEntry, signature, signed_entries_in}
+use Rattle.eif_classes.specs.Signatures.{SignedEntry, signature, signed_entries_in}
 use Rattle.eif_classes.specs.Types.{TyT, none_type, attached_form, is_self_initialising}
 use Rattle.eif_system.specs.Lineage.{line_of}
-use Rattle.eif_body_rules.specs.CallRules.{Argument, inherited}
+use Rattle.eif_body_rules.specs.CallRules.{Argument}
 use Rattle.eif_body_rules.specs.Conditions as conditions
 use Rattle.eif_body_rules.specs.Conditions.{name_in, compared_name}
 use Rattle.eif_body_rules.specs.CreationRules.{of_written}
@@ -31,10 +29,10 @@ use Rattle.eif_flow_rules.specs.FieldSets.{FieldSet}
 use Rattle.eif_flow_rules.specs.FlowTrees.{Flow, idle, calls}
 use Rattle.eif_flow_rules.specs.Summaries.{summary}
 use Rattle.eif_flow_rules.specs.TestLocals.{usable_by_left}
-use Rattle.eif_flow_rules.specs.VersionFlows.{call_of, precursor_origin}
+use Rattle.eif_flow_rules.specs.VersionFlows.{call_of}
 use Rattle.eif_meaning.specs.Values as values
 use Rattle.eif_meaning.specs.Values.{Value, void, Object, Seen, State, no_feature, Does, ◌>>=◌, give, some_or, need}
-use Rattle.eif_meaning.specs.System.{System, Version, declaration_in, version_in, system_over}
+use Rattle.eif_meaning.specs.System.{System, declaration_in, version_in, system_over}
 use Rattle.eif_meaning.specs.KernelTypes.{integer_type, boolean_type, character_type, string_type}
 use Rattle.eif_meaning.specs.Frames.{Frame, written_type, entity}
 use Rattle.eif_meaning.specs.Operands.{as_boolean, give_boolean}
@@ -46,7 +44,7 @@ use Rattle.eif_meaning.specs.Evaluation.{evaluate_literal, current_type, written
 use Rattle.eif_valid_bodies.specs.SetReads as reads
 use Rattle.eif_valid_bodies.specs.SetReads.{SetReads, SetReadsIn}
 use Rattle.eif_valid_bodies.specs.Valid.{Valid}
-use Rattle.eif_valid_bodies.specs.ValidCalls.{ValidPrecursor, Fit}
+use Rattle.eif_valid_bodies.specs.ValidCalls.{ValidPrecursor}
 use Rattle.eif_valid_bodies.specs.ValidNodes.{AreBoth, Operand, Operands}
 use Rattle.eif_valid_bodies.proofs.Calls.{none_given, more_given, used_name, used_precursor, used_call}
 use Rattle.eif_valid_bodies.proofs.Nodes.{literal_is, void_is, current_is, result_is, paren_is, valid_unary, valid_binary, valid_test, valid_creation}
@@ -56,7 +54,7 @@ use Rattle.eif_run_laws.specs.OperatorLaws as laws_of
 use Rattle.eif_run_laws.specs.OperatorLaws.{EndsIn, OperandFits, OperandsFit}
 use Rattle.eif_run_laws.specs.Steps.{Safe, heap_of, Extends}
 use Rattle.eif_run_laws.proofs.Lists.{some_is}
-use Rattle.eif_run_laws.proofs.Growing.{fits_grown, all_grown}
+use Rattle.eif_run_laws.proofs.Growing.{fits_grown}
 use Rattle.eif_run_laws.proofs.Fitting.{boolean_fits}
 use Rattle.eif_run_laws.proofs.Keeps.{safe_more}
 use Rattle.eif_run_laws.proofs.Operands.{boolean_is, literal_given, one_ok, two_ok}
@@ -71,17 +69,18 @@ use Rattle.eif_run_sound.proofs.Flows.{flow_keeps}
 use Rattle.eif_run_sound.proofs.Known.{Apart, held_none, held_fewer, held_both, told_apart}
 use Rattle.eif_run_sound.proofs.Types.{fits_in, all_fit, answers_seen}
 use Rattle.eif_run_sound.proofs.Entities.{append_none}
-use Rattle.eif_run_sound.proofs.Calls.{Called, own_body_ok}
-use Rattle.eif_run_sound.proofs.Names.{Named, written_is, name_ok, current_shown, result_ok}
+use Rattle.eif_run_sound.proofs.Calls.{own_body_ok}
+use Rattle.eif_run_sound.proofs.Names.{written_is, name_ok, current_shown, result_ok}
 use Rattle.eif_run_sound.proofs.Targets.{target_ok}
 use Rattle.eif_run_sound.proofs.Creations.{created_ok}
-use Rattle.eif_run_sound.proofs.Tests.{Tested, test_ok}
+use Rattle.eif_run_sound.proofs.Tests.{test_ok}
 use Rattle.eif_run_sound.proofs.Operands.{hides_left, compared, fewer_append, fewer_right, operands_apart, left_kept}
 
 -- nothing but the store changes after names were bound
 later_quiet : (names : List (List ℕ)) (s t v : State) → Later names s t → Later [] t v → Later names s v
 later_quiet names s t v f g =
-    later_within (names ++ []) names s v (λ x h. ap (λ ns. is_among ns x) (append_none names) ∙ h) (later_on names [] s t v f g)
+    later_within (names ++ []) names s v (λ x h. ap (λ ns. is_among ns x) (append_none names) ∙ h)
+    (later_on names [] s t v f g)
 
 -- values tell their booleans
 same_boolean : (a b : Bool) → values.boolean a ≡ values.boolean b → b ≡ a
@@ -115,7 +114,8 @@ module _ (u : List ClassT) (laws : UniverseLaws u) (r : Running u) (lawful : IsW
       → Safe (evaluate c e s) (Evaluated u r k n set f e t s)
       → Safe ((evaluate c e >>= need) s) (λ v w. Evaluated u r k n set f e t s v (Some w))
   valued k n set f e t s h =
-      chain (evaluate c e) need s (Evaluated u r k n set f e t s) (λ v w. Evaluated u r k n set f e t s v (Some w)) h go
+      chain (evaluate c e) need s (Evaluated u r k n set f e t s) (λ v w. Evaluated u r k n set f e t s v
+      (Some w)) h go
     where
       go : (v : State) (o : Option Seen) → Evaluated u r k n set f e t s v o
           → Safe (need o v) (λ v w. Evaluated u r k n set f e t s v (Some w))
@@ -139,7 +139,8 @@ module _ (u : List ClassT) (laws : UniverseLaws u) (r : Running u) (lawful : IsW
       record { fits = subst (λ t. Fits system h t w.value) (sym e) g.0; seen = ap attached_form g.1 }
 
   -- a step that changes the store alone gives it, after names were bound
-  plainly : (k : List Fact) (n set : List (List ℕ)) (f : FieldSet) (e : Ex) (t a : TyT) (s v w : State) (o : Option Seen)
+  plainly : (k : List Fact) (n set : List (List ℕ)) (f : FieldSet) (e : Ex) (t a : TyT) (s v w : State)
+      (o : Option Seen)
       → Later (test_names e) s v → Good u r k set f v → EndsIn system a v w o → t ≡ a → closed r a ≡ a
       → ((b : Bool) → facts S k n b e ≡ []) → name_in e ≡ None → conditions.is_void e ≡ false
       → Evaluated u r k n set f e t s w o
@@ -150,7 +151,8 @@ module _ (u : List ClassT) (laws : UniverseLaws u) (r : Running u) (lawful : IsW
     told = told_nothing k n e o w none name no_void;
   }
 
-  literal_types : (x : Literal) → (types.literal_type x ≡ laws_of.literal_type x) × (closed r (laws_of.literal_type x) ≡ laws_of.literal_type x)
+  literal_types : (x : Literal) → (types.literal_type x ≡ laws_of.literal_type x)
+      × (closed r (laws_of.literal_type x) ≡ laws_of.literal_type x)
   literal_types (lit.Int n) = (refl, refl)
   literal_types (lit.Char n) = (refl, refl)
   literal_types (lit.Text bytes) = (refl, refl)
@@ -167,7 +169,8 @@ module _ (u : List ClassT) (laws : UniverseLaws u) (r : Running u) (lawful : IsW
       let i = (more_given S k n e es given valid).is in cc
 
   -- the entities of the body are no features
-  pub entity_none : (x : List ℕ) (e : Entity) → entity_of S x ≡ Some e → signature u (line_of u class_of_text) x ≡ None
+  pub entity_none : (x : List ℕ) (e : Entity) → entity_of S x ≡ Some e
+      → signature u (line_of u class_of_text) x ≡ None
   entity_none x e is = laws.features.unknown class_of_text x (lawful.entities.no_feature x e is)
 
   told_name : (k : List Fact) (n : List (List ℕ)) (p : Place) (x : List ℕ) (args : Exs) (o : Option Seen) (s : State)
@@ -179,18 +182,27 @@ module _ (u : List ClassT) (laws : UniverseLaws u) (r : Running u) (lawful : IsW
         (read w i (subst (λ y. IsEntity (entity r.declaration.tree y)) (sym (some_is j)) h));
     void = λ w i j. cc;
   }
-  told_name k n p x (and_ex e es) o s read = told_nothing k n (unqualified p x (and_ex e es)) o s (λ b. refl) refl refl
+  told_name k n p x (and_ex e es) o s read = told_nothing k n (unqualified p x (and_ex e es)) o s
+      (λ b. refl) refl refl
 
   -- ---- the version of a parent
 
   abbrev pub routine : IsRoutine u r.declaration
-  routine = record { text = r.text; at = r.at; declares = r.declares; no_field = lawful.no_field; effective = lawful.effective }
+  routine = record {
+    text = r.text;
+    at = r.at;
+    declares = r.declares;
+    no_field = lawful.no_field;
+    effective =
+        lawful.effective;
+  }
 
   as_it_is : (o : Option TyT) → option_map (λ t. t) o ≡ o
   as_it_is None = refl
   as_it_is (Some t) = refl
 
-  pub version_ok : (k : List Fact) (n set : List (List ℕ)) (f : FieldSet) (p : Place) (parent : Option NameAt) (args : Exs)
+  pub version_ok : (k : List Fact) (n set : List (List ℕ)) (f : FieldSet) (p : Place) (parent : Option NameAt)
+      (args : Exs)
       (result : Option TyT) (w : ValidPrecursor S k n parent args result) (vs : List Value) (s : State)
       → Good u r k set f s → AllFit system (heap_of s) (map (closed r) (types_of w.given)) vs
       → MetOn u r ((meanings_of u r).version p (option_map (λ x. x.name) parent)) f
@@ -209,9 +221,11 @@ module _ (u : List ClassT) (laws : UniverseLaws u) (r : Running u) (lawful : IsW
       let flow : (meanings_of u r).version p name ≡ calls p a.version =
       ap (call_of p) a.followed
       ∙ ap (λ t. option_map_or (calls p) (if t then None else Some a.version) idle) a.serves.routine.no_field in
-      let runs : version c (written_name parent) ≡ Some (record { declaration = a.version; signature = e.signature }) =
+      let runs : version c (written_name parent) ≡ Some (record { declaration = a.version; signature = e.signature })
+      =
       ap (option_and_then version_in) found
-      ∙ ap (option_map (λ (x : Declaration). record { declaration = x; signature = e.signature })) (ap declaration_in a.version_is) in
+      ∙ ap (option_map (λ (x : Declaration). record { declaration = x; signature = e.signature }))
+      (ap declaration_in a.version_is) in
       let args_fit = all_fit u laws r (heap_of s) w.given e.signature.arguments vs w.called.fit fit in
       let Q = λ (v : State) (o : Option Seen). Later [] s v
       × Good u r k set (behind_on u r ((meanings_of u r).version p name) f) v × Gives u r (heap_of v) result o in
@@ -262,7 +276,8 @@ module _ (u : List ClassT) (laws : UniverseLaws u) (r : Running u) (lawful : IsW
   abbrev Tells : List Fact → List (List ℕ) → Ex → Value → State → Type 0
   Tells k n e v s = (b : Bool) → v ≡ values.boolean b → Held u r (facts S k n b e) s
 
-  unary_ok : (k : List Fact) (n set : List (List ℕ)) (f : FieldSet) (p : Place) (o : Op) (e : Ex) (t a : TyT) (s v : State)
+  unary_ok : (k : List Fact) (n set : List (List ℕ)) (f : FieldSet) (p : Place) (o : Op) (e : Ex) (t a : TyT)
+      (s v : State)
       (w : Seen) → IsUnary o → Operand S o a t → Later (test_names e) s v → Good u r k set f v
       → Shows u r (heap_of v) a w → Tells k n e w.value v
       → Safe (operate_one o w.value v) (Evaluated u r k n set f (unary p o e) t s)
@@ -277,12 +292,14 @@ module _ (u : List ClassT) (laws : UniverseLaws u) (r : Running u) (lawful : IsW
       twice false = refl
   unary_ok k n set f p op.Plus e t a s v w written types later good shows tells =
       safe_more (operate_one op.Plus w.value v) (EndsIn system integer_type v) _
-      (λ x o ends. plainly k n set f (unary p op.Plus e) t integer_type s v x o later good ends types.1 refl (λ b. refl) refl refl)
+      (λ x o ends. plainly k n set f (unary p op.Plus e) t integer_type s v x o later good ends types.1 refl
+      (λ b. refl) refl refl)
       (one_ok system laws.types op.Plus w.value integer_type v good.heap
       (fits_in u laws r (heap_of v) a integer_type w.value types.0 shows.fits, refl))
   unary_ok k n set f p op.Minus e t a s v w written types later good shows tells =
       safe_more (operate_one op.Minus w.value v) (EndsIn system integer_type v) _
-      (λ x o ends. plainly k n set f (unary p op.Minus e) t integer_type s v x o later good ends types.1 refl (λ b. refl) refl refl)
+      (λ x o ends. plainly k n set f (unary p op.Minus e) t integer_type s v x o later good ends types.1 refl
+      (λ b. refl) refl refl)
       (one_ok system laws.types op.Minus w.value integer_type v good.heap
       (fits_in u laws r (heap_of v) a integer_type w.value types.0 shows.fits, refl))
   unary_ok k n set f p _ e t a s v w written types later good shows tells = absurd written
@@ -298,12 +315,15 @@ module _ (u : List ClassT) (laws : UniverseLaws u) (r : Running u) (lawful : IsW
     pub right_tells : Tells k (n ++ test_names left) right y.value v
     pub apart : (i j : Bool)
         → Apart (facts S k n i left) (facts S k (n ++ test_names left) j right)
-    pub reads_left : (z : List ℕ) → name_in left ≡ Some z → IsEntity (entity r.declaration.tree z) → held_in u r v z ≡ Some x.value
-    pub reads_right : (z : List ℕ) → name_in right ≡ Some z → IsEntity (entity r.declaration.tree z) → held_in u r v z ≡ Some y.value
+    pub reads_left : (z : List ℕ) → name_in left ≡ Some z → IsEntity (entity r.declaration.tree z)
+        → held_in u r v z ≡ Some x.value
+    pub reads_right : (z : List ℕ) → name_in right ≡ Some z → IsEntity (entity r.declaration.tree z)
+        → held_in u r v z ≡ Some y.value
     pub void_left : conditions.is_void left ≡ true → x.value ≡ void
     pub void_right : conditions.is_void right ≡ true → y.value ≡ void
 
-  module _ (k : List Fact) (n set : List (List ℕ)) (f : FieldSet) (left right : Ex) (a b : TyT) (p q : Place) (s v : State)
+  module _ (k : List Fact) (n set : List (List ℕ)) (f : FieldSet) (left right : Ex) (a b : TyT) (p q : Place)
+      (s v : State)
       (x y : Seen) (both : Both k n set f left right a b s v x y) where
     abbrev Ops : Op → TyT → Type 0
     Ops o t = Safe (operate o x.value y.value v) (Evaluated u r k n set f (binary p o q left right) t s)
@@ -312,15 +332,18 @@ module _ (u : List ClassT) (laws : UniverseLaws u) (r : Running u) (lawful : IsW
         → laws_of.BothFit system (heap_of v) z x.value y.value
     fit_both z e h = (
       subst (λ t. Fits system (heap_of v) t x.value) e (fits_in u laws r (heap_of v) a z x.value h.0 both.first.fits),
-      subst (λ t. Fits system (heap_of v) t y.value) e (fits_in u laws r (heap_of v) b z y.value h.1 both.second.fits),
+      subst (λ t. Fits system (heap_of v) t y.value) e (fits_in u laws r
+          (heap_of v) b z y.value h.1 both.second.fits),
     )
 
     -- an operator that tells nothing
-    op_plain : (o : Op) (t z : TyT) → t ≡ z → closed r z ≡ z → ((i : Bool) → facts S k n i (binary p o q left right) ≡ [])
+    op_plain : (o : Op) (t z : TyT) → t ≡ z → closed r z ≡ z → ((i : Bool)
+        → facts S k n i (binary p o q left right) ≡ [])
         → OperandsFit system (heap_of v) o x.value y.value z → Ops o t
     op_plain o t z is kernel none fit =
         safe_more (operate o x.value y.value v) (EndsIn system z v) _
-        (λ w i ends. plainly k n set f (binary p o q left right) t z s v w i both.later both.good ends is kernel none refl refl)
+        (λ w i ends. plainly k n set f (binary p o q left right) t z s v w i both.later both.good ends is kernel none
+        refl refl)
         (two_ok system laws.types o x.value y.value z v both.good.heap fit)
 
     integers : (o : Op) (t : TyT) → t ≡ integer_type → ((i : Bool) → facts S k n i (binary p o q left right) ≡ [])
@@ -352,59 +375,73 @@ module _ (u : List ClassT) (laws : UniverseLaws u) (r : Running u) (lawful : IsW
     both_told i j d e = held_both u r _ _ v (both.left_tells i d) (both.right_tells j e) (both.apart i j)
 
     and_ok : (t : TyT) → t ≡ boolean_type → AreBoth S types.boolean a b → Ops op.And t
-    and_ok t is h = truths h (λ z w. Safe (operate op.And z w v) (Evaluated u r k n set f (binary p op.And q left right) t s)) go
+    and_ok t is h = truths h (λ z w. Safe (operate op.And z w v) (Evaluated u r k n set f
+        (binary p op.And q left right) t s)) go
       where
         go : (i j : Bool) → x.value ≡ values.boolean i → y.value ≡ values.boolean j
             → Safe (operate op.And (values.boolean i) (values.boolean j) v)
             (Evaluated u r k n set f (binary p op.And q left right) t s)
         go true true d e =
-            truth_given k n set f (binary p op.And q left right) t s v true both.later both.good is (both_told true true d e) refl refl
+            truth_given k n set f (binary p op.And q left right) t s v true both.later both.good is
+            (both_told true true d e) refl refl
         go true false d e =
-            truth_given k n set f (binary p op.And q left right) t s v false both.later both.good is (held_none u r v) refl refl
+            truth_given k n set f (binary p op.And q left right) t s v false both.later both.good is
+            (held_none u r v) refl refl
         go false j d e =
-            truth_given k n set f (binary p op.And q left right) t s v false both.later both.good is (held_none u r v) refl refl
+            truth_given k n set f (binary p op.And q left right) t s v false both.later both.good is
+            (held_none u r v) refl refl
 
     or_ok : (t : TyT) → t ≡ boolean_type → AreBoth S types.boolean a b → Ops op.Or t
-    or_ok t is h = truths h (λ z w. Safe (operate op.Or z w v) (Evaluated u r k n set f (binary p op.Or q left right) t s)) go
+    or_ok t is h = truths h (λ z w. Safe (operate op.Or z w v) (Evaluated u r k n set f
+        (binary p op.Or q left right) t s)) go
       where
         go : (i j : Bool) → x.value ≡ values.boolean i → y.value ≡ values.boolean j
             → Safe (operate op.Or (values.boolean i) (values.boolean j) v)
             (Evaluated u r k n set f (binary p op.Or q left right) t s)
         go false false d e =
-            truth_given k n set f (binary p op.Or q left right) t s v false both.later both.good is (both_told false false d e) refl refl
+            truth_given k n set f (binary p op.Or q left right) t s v false both.later both.good is
+            (both_told false false d e) refl refl
         go false true d e =
-            truth_given k n set f (binary p op.Or q left right) t s v true both.later both.good is (held_none u r v) refl refl
+            truth_given k n set f (binary p op.Or q left right) t s v true both.later both.good is
+            (held_none u r v) refl refl
         go true j d e =
-            truth_given k n set f (binary p op.Or q left right) t s v true both.later both.good is (held_none u r v) refl refl
+            truth_given k n set f (binary p op.Or q left right) t s v true both.later both.good is
+            (held_none u r v) refl refl
 
     -- where the operands differ, the one that is compared with Void is something else
     differ_told : same_value x.value y.value ≡ false
         → Held u r (all_attached (compared_name (is_testable S) left right) ++ []) v
     differ_told e =
         subst (λ l. Held u r l v) (sym (append_none (all_attached (compared_name (is_testable S) left right))))
-        (compared u laws r left right x.value y.value v both.reads_left both.reads_right both.void_left both.void_right e)
+        (compared u laws r left right x.value y.value v both.reads_left both.reads_right both.void_left
+        both.void_right e)
 
     equal_ok : (t : TyT) → t ≡ boolean_type → Ops op.Equal t
     equal_ok t is = go (same_value x.value y.value) refl
       where
         go : (i : Bool) → same_value x.value y.value ≡ i
             → Safe (give_boolean i v) (Evaluated u r k n set f (binary p op.Equal q left right) t s)
-        go true e = truth_given k n set f (binary p op.Equal q left right) t s v true both.later both.good is (held_none u r v) refl refl
+        go true e = truth_given k n set f (binary p op.Equal q left right) t s v true both.later both.good is
+            (held_none u r v) refl refl
         go false e =
-            truth_given k n set f (binary p op.Equal q left right) t s v false both.later both.good is (differ_told e) refl refl
+            truth_given k n set f (binary p op.Equal q left right) t s v false both.later both.good is
+            (differ_told e) refl refl
 
     unequal_ok : (t : TyT) → t ≡ boolean_type → Ops op.NotEqual t
     unequal_ok t is = go (same_value x.value y.value) refl
       where
         go : (i : Bool) → same_value x.value y.value ≡ i
             → Safe (give_boolean (not i) v) (Evaluated u r k n set f (binary p op.NotEqual q left right) t s)
-        go true e = truth_given k n set f (binary p op.NotEqual q left right) t s v false both.later both.good is (held_none u r v) refl refl
+        go true e = truth_given k n set f (binary p op.NotEqual q left right) t s v false both.later both.good is
+            (held_none u r v) refl refl
         go false e =
-            truth_given k n set f (binary p op.NotEqual q left right) t s v true both.later both.good is (differ_told e) refl refl
+            truth_given k n set f (binary p op.NotEqual q left right) t s v true both.later both.good is
+            (differ_told e) refl refl
 
     -- where both operands are evaluated
     strict_ok : (o : Op) (t : TyT) → asks_right o ≡ None → IsBinary o → Operands S o a b t → Ops o t
-    strict_ok op.Plus t e w (inl h) = op_plain op.Plus t string_type h.1 refl (λ i. refl) (inl (fit_both string_type refl h.0, refl))
+    strict_ok op.Plus t e w (inl h) = op_plain op.Plus t string_type h.1 refl (λ i. refl) (inl
+        (fit_both string_type refl h.0, refl))
     strict_ok op.Plus t e w (inr h) = integers op.Plus t h.1 (λ i. refl) (inr (fit_both integer_type refl h.0, refl))
     strict_ok op.Minus t e w h = integers op.Minus t h.1 (λ i. refl) (fit_both integer_type refl h.0, refl)
     strict_ok op.Times t e w h = integers op.Times t h.1 (λ i. refl) (fit_both integer_type refl h.0, refl)
@@ -428,7 +465,8 @@ module _ (u : List ClassT) (laws : UniverseLaws u) (r : Running u) (lawful : IsW
   -- ---- the right operand
 
   -- both are evaluated, one after the other
-  both_evaluated : (k : List Fact) (n set : List (List ℕ)) (f g : FieldSet) (left right : Ex) (a b : TyT) (s v w : State)
+  both_evaluated : (k : List Fact) (n set : List (List ℕ)) (f g : FieldSet) (left right : Ex) (a b : TyT)
+      (s v w : State)
       (x y : Seen) → Valid (judge S k n left) a → Valid (judge S k (n ++ test_names left) right) b
       → Evaluated u r k n set f left a s v (Some x)
       → Evaluated u r k (n ++ test_names left) set g right b v w (Some y)
@@ -438,7 +476,8 @@ module _ (u : List ClassT) (laws : UniverseLaws u) (r : Running u) (lawful : IsW
     good = second.good;
     first = shows_grown u r (heap_of v) (heap_of w) a x second.later.grown first.gives;
     second = second.gives;
-    left_tells = λ i e. held_later u r (facts S k n i left) (test_names right) v w (first.told.held x i refl e) second.later
+    left_tells = λ i e. held_later u r (facts S k n i left) (test_names right) v w
+        (first.told.held x i refl e) second.later
         (left_kept S k n i left right k b of_right);
     right_tells = λ i e. second.told.held y i refl e;
     apart = λ i j. operands_apart S k n i j left right k b of_right;
@@ -449,7 +488,8 @@ module _ (u : List ClassT) (laws : UniverseLaws u) (r : Running u) (lawful : IsW
   }
 
   -- a right operand that may be left out
-  module _ (k : List Fact) (n set : List (List ℕ)) (f g : FieldSet) (left right : Ex) (a b : TyT) (p q : Place) (s v : State)
+  module _ (k : List Fact) (n set : List (List ℕ)) (f g : FieldSet) (left right : Ex) (a b : TyT) (p q : Place)
+      (s v : State)
       (x : Seen) (of_left : Valid (judge S k n left) a) (first : Evaluated u r k n set f left a s v (Some x))
       (keeps : (m : List ℕ) → f m ≡ true → g m ≡ true) where
     -- the facts with which it is evaluated
@@ -459,7 +499,8 @@ module _ (u : List ClassT) (laws : UniverseLaws u) (r : Running u) (lawful : IsW
     known_right : (i : Bool) → x.value ≡ values.boolean i → Good u r (with_left i) set f v
     known_right i e =
         good_known u r k (with_left i) set f v first.good
-        (held_both u r k (facts S k n i left) v first.good.known (first.told.held x i refl e) (told_apart S k n i left a of_left))
+        (held_both u r k (facts S k n i left) v first.good.known (first.told.held x i refl e)
+        (told_apart S k n i left a of_left))
 
     fewer_fields : (t : FieldSet) (w : State) (z : Good u r k set t w) → ((m : List ℕ) → f m ≡ true → t m ≡ true)
         → Good u r k set f w
@@ -479,20 +520,23 @@ module _ (u : List ClassT) (laws : UniverseLaws u) (r : Running u) (lawful : IsW
           fewer_fields g w
               (good_known u r (with_left i) k set g w second.good
               (held_fewer u r k (with_left i) w (fewer_append k (facts S k n i left) apart) second.good.known)) keeps,
-          held_fewer u r (facts S k n i left) (with_left i) w (fewer_right k (facts S k n i left) apart) second.good.known,
+          held_fewer u r (facts S k n i left) (with_left i) w (fewer_right k
+              (facts S k n i left) apart) second.good.known,
         )
 
     abbrev Ends : Op → TyT → State → Option Seen → Type 0
     Ends o t = Evaluated u r k n set f (binary p o q left right) t s
 
     -- it is evaluated, and gives what the operator gives
-    right_ok : (o : Op) (t : TyT) (i : Bool) → x.value ≡ values.boolean i → t ≡ boolean_type → fits S b types.boolean ≡ true
+    right_ok : (o : Op) (t : TyT) (i : Bool) → x.value ≡ values.boolean i → t ≡ boolean_type
+        → fits S b types.boolean ≡ true
         → ((j : Bool) (w : State) → Held u r (facts S k n i left) w
         → Held u r (facts S (with_left i) (n ++ test_names left) j right) w
         → Apart (facts S k n i left) (facts S (with_left i) (n ++ test_names left) j right)
         → Held u r (facts S k n j (binary p o q left right)) w)
         → Valid (judge S (with_left i) (n ++ test_names left) right) b
-        → Safe ((evaluate c right >>= need) v) (λ w y. Evaluated u r (with_left i) (n ++ test_names left) set g right b v w (Some y))
+        → Safe ((evaluate c right >>= need) v) (λ w y. Evaluated u r (with_left i)
+        (n ++ test_names left) set g right b v w (Some y))
         → Safe (((evaluate c right >>= need) >>= (λ y. as_boolean y.value give_boolean)) v) (Ends o t)
     right_ok o t i e is fit tells of_right h =
         chain (evaluate c right >>= need) (λ y. as_boolean y.value give_boolean) v _ (Ends o t) h
@@ -502,11 +546,13 @@ module _ (u : List ClassT) (laws : UniverseLaws u) (r : Running u) (lawful : IsW
         subst (λ z. Safe (as_boolean z give_boolean w) (Ends o t)) (sym j.1)
         (truth_given k n set f (binary p o q left right) t s w j.0
         (later_on (test_names left) (test_names right) s v w first.later second.later) done.0 is
-        (tells j.0 w done.1 (second.told.held y j.0 refl j.1) (operands_apart S k n i j.0 left right (with_left i) b of_right))
+        (tells j.0 w done.1 (second.told.held y j.0 refl j.1) (operands_apart S k n i j.0 left right
+        (with_left i) b of_right))
         refl refl))
 
     -- it is left out
-    left_alone : (o : Op) (t : TyT) (i : Bool) → t ≡ boolean_type → Held u r (facts S k n i (binary p o q left right)) v
+    left_alone : (o : Op) (t : TyT) (i : Bool) → t ≡ boolean_type
+        → Held u r (facts S k n i (binary p o q left right)) v
         → Ends o t v (answer i)
     left_alone o t i is held =
         truth_given k n set f (binary p o q left right) t s v i
@@ -515,17 +561,20 @@ module _ (u : List ClassT) (laws : UniverseLaws u) (r : Running u) (lawful : IsW
 
     abbrev Right : Bool → Type 0
     Right i = Valid (judge S (with_left i) (n ++ test_names left) right) b
-        × Safe ((evaluate c right >>= need) v) (λ w y. Evaluated u r (with_left i) (n ++ test_names left) set g right b v w (Some y))
+        × Safe ((evaluate c right >>= need) v) (λ w y. Evaluated u r (with_left i)
+        (n ++ test_names left) set g right b v w (Some y))
 
     pub and_then_ok : (t : TyT) → AreBoth S types.boolean a b → t ≡ boolean_type
         → (x.value ≡ values.boolean true → Right true)
         → Safe (operate_with (Some true) op.AndThen x.value (evaluate c right >>= need) v) (Ends op.AndThen t)
     and_then_ok t h is right_of =
         let i = truth_of (heap_of v) a x first.good.heap first.gives h.0 in
-        subst (λ z. Safe (operate_with (Some true) op.AndThen z (evaluate c right >>= need) v) (Ends op.AndThen t)) (sym i.1) (go i.0 i.1)
+        subst (λ z. Safe (operate_with (Some true) op.AndThen z (evaluate c right >>= need) v) (Ends op.AndThen t))
+        (sym i.1) (go i.0 i.1)
       where
         go : (i : Bool) → x.value ≡ values.boolean i
-            → Safe (operate_with (Some true) op.AndThen (values.boolean i) (evaluate c right >>= need) v) (Ends op.AndThen t)
+            → Safe (operate_with (Some true) op.AndThen (values.boolean i) (evaluate c right >>= need) v)
+            (Ends op.AndThen t)
         go true e = right_ok op.AndThen t true e is h.1 tells (right_of e).0 (right_of e).1
           where
             tells : (j : Bool) (w : State) → Held u r (facts S k n true left) w
@@ -541,10 +590,12 @@ module _ (u : List ClassT) (laws : UniverseLaws u) (r : Running u) (lawful : IsW
         → Safe (operate_with (Some false) op.OrElse x.value (evaluate c right >>= need) v) (Ends op.OrElse t)
     or_else_ok t h is right_of =
         let i = truth_of (heap_of v) a x first.good.heap first.gives h.0 in
-        subst (λ z. Safe (operate_with (Some false) op.OrElse z (evaluate c right >>= need) v) (Ends op.OrElse t)) (sym i.1) (go i.0 i.1)
+        subst (λ z. Safe (operate_with (Some false) op.OrElse z (evaluate c right >>= need) v) (Ends op.OrElse t))
+        (sym i.1) (go i.0 i.1)
       where
         go : (i : Bool) → x.value ≡ values.boolean i
-            → Safe (operate_with (Some false) op.OrElse (values.boolean i) (evaluate c right >>= need) v) (Ends op.OrElse t)
+            → Safe (operate_with (Some false) op.OrElse (values.boolean i) (evaluate c right >>= need) v)
+            (Ends op.OrElse t)
         go false e = right_ok op.OrElse t false e is h.1 tells (right_of e).0 (right_of e).1
           where
             tells : (j : Bool) (w : State) → Held u r (facts S k n false left) w
@@ -560,10 +611,12 @@ module _ (u : List ClassT) (laws : UniverseLaws u) (r : Running u) (lawful : IsW
         → Safe (operate_with (Some true) op.Implies x.value (evaluate c right >>= need) v) (Ends op.Implies t)
     implies_ok t h is right_of =
         let i = truth_of (heap_of v) a x first.good.heap first.gives h.0 in
-        subst (λ z. Safe (operate_with (Some true) op.Implies z (evaluate c right >>= need) v) (Ends op.Implies t)) (sym i.1) (go i.0 i.1)
+        subst (λ z. Safe (operate_with (Some true) op.Implies z (evaluate c right >>= need) v) (Ends op.Implies t))
+        (sym i.1) (go i.0 i.1)
       where
         go : (i : Bool) → x.value ≡ values.boolean i
-            → Safe (operate_with (Some true) op.Implies (values.boolean i) (evaluate c right >>= need) v) (Ends op.Implies t)
+            → Safe (operate_with (Some true) op.Implies (values.boolean i) (evaluate c right >>= need) v)
+            (Ends op.Implies t)
         go true e = right_ok op.Implies t true e is h.1 tells (right_of e).0 (right_of e).1
           where
             tells : (j : Bool) (w : State) → Held u r (facts S k n true left) w
@@ -592,15 +645,18 @@ module _ (u : List ClassT) (laws : UniverseLaws u) (r : Running u) (lawful : IsW
       → Safe (evaluate_all c es s) (AllEvaluated u r k set (behind_on u r (flow_of_all u r hidden es) f) es given s)
 
   -- two operands that are both evaluated
-  both_ok : (o : Op) (p q : Place) (left right : Ex) (k : List Fact) (n set : List (List ℕ)) (f g h : FieldSet) (t a b : TyT)
+  both_ok : (o : Op) (p q : Place) (left right : Ex) (k : List Fact) (n set : List (List ℕ)) (f g h : FieldSet)
+      (t a b : TyT)
       (s : State) → asks_right o ≡ None → IsBinary o → Operands S o a b t
       → Valid (judge S k n left) a → Valid (judge S k (n ++ test_names left) right) b
       → Safe (evaluate c left s) (Evaluated u r k n set g left a s)
-      → ((v : State) → Good u r k set g v → Safe (evaluate c right v) (Evaluated u r k (n ++ test_names left) set h right b v))
+      → ((v : State) → Good u r k set g v → Safe (evaluate c right v) (Evaluated u r k
+      (n ++ test_names left) set h right b v))
       → Safe (evaluate c (binary p o q left right) s) (Evaluated u r k n set h (binary p o q left right) t s)
   both_ok o p q left right k n set f g h t a b s asks written types of_left of_right first second =
       let Q = Evaluated u r k n set h (binary p o q left right) t s in
-      subst (λ z. Safe (((evaluate c left >>= need) >>= (λ x. operate_with z o x.value (evaluate c right >>= need))) s) Q) (sym asks)
+      subst (λ z. Safe (((evaluate c left >>= need) >>= (λ x. operate_with z o x.value
+      (evaluate c right >>= need))) s) Q) (sym asks)
       (chain (evaluate c left >>= need) (λ x. (evaluate c right >>= need) >>= (λ y. operate o x.value y.value)) s _ Q
       (valued k n set g left a s first)
       (λ v x ev. chain (evaluate c right >>= need) (λ y. operate o x.value y.value) v _ Q
@@ -674,9 +730,11 @@ module _ (u : List ClassT) (laws : UniverseLaws u) (r : Running u) (lawful : IsW
         let f1 = behind_on u r (flow_of u r hidden e) f in
         let f2 = behind_on u r (flow_of_all u r hidden args) f1 in
         chain (evaluate c e >>= need) (λ z. evaluate_all c args >>= call_on c z x.name) s _ _
-        (valued k n set f1 e w.target s (evaluate_ok e k n set hidden f w.target w.target_valid sets.0 spelled.0 hides met.0 s g))
+        (valued k n set f1 e w.target s (evaluate_ok e k n set hidden f w.target w.target_valid sets.0 spelled.0 hides
+        met.0 s g))
         (λ v z ev. chain (evaluate_all c args) (call_on c z x.name) v _ _
-        (arguments_ok args k (n ++ test_names e) set hidden f1 w.given w.args_valid sets.1 spelled.1 hides met.1 v ev.good)
+        (arguments_ok args k (n ++ test_names e) set hidden f1 w.given w.args_valid sets.1 spelled.1 hides met.1 v
+        ev.good)
         (λ y vs a. safe_more (call_on c z x.name vs y) _ _
         (λ l o h. record {
           later = later_then system (test_names e ++ test_names_in args) s y l
@@ -685,7 +743,8 @@ module _ (u : List ClassT) (laws : UniverseLaws u) (r : Running u) (lawful : IsW
           gives = h.1;
           told = told_nothing k n (qualified p e x args) o l (λ b. refl) refl refl;
         })
-        (target_ok u laws r y a.good.heap w.target z x.name w.given (Some t) w.signed vs w.target_attached w.found w.called
+        (target_ok u laws r y a.good.heap w.target z x.name w.given
+        (Some t) w.signed vs w.target_attached w.found w.called
         w.result_is (shows_grown u r (heap_of v) (heap_of y) w.target z a.later.grown ev.gives) a.fit)))
     evaluate_ok (creation p y x args) k n set hidden f t valid sets spelled hides met s g =
         let w = valid_creation S k n p y x args t valid in
@@ -700,7 +759,8 @@ module _ (u : List ClassT) (laws : UniverseLaws u) (r : Running u) (lawful : IsW
           told = told_nothing k n (creation p y x args) o l (λ b. refl) refl refl;
         })
         (subst (λ z. Safe (create_object c (written_name x) vs z v)
-        (λ l o. Extends system v l × Gives u r (heap_of l) (Some (attached_form (written u r y))) o)) (sym (written_is u laws r y))
+        (λ l o. Extends system v l × Gives u r (heap_of l) (Some (attached_form (written u r y))) o)) (sym
+        (written_is u laws r y))
         (created_ok u laws r v a.good.heap (of_written S code.Vgce p y x) w.given vs w.created spelled.0 a.fit)))
     evaluate_ok (test p y l e) k n set hidden f t valid sets spelled hides met s g =
         let w = valid_test S k n p y l e t valid in
@@ -711,7 +771,8 @@ module _ (u : List ClassT) (laws : UniverseLaws u) (r : Running u) (lawful : IsW
         (λ v z ev. safe_more (run_test c y l z v) _ _
         (λ x o h. record {
           later = later_within (test_names e ++ local_names l) (local_names l ++ test_names e) s x
-              (λ m i. let q = among_false (local_names l) (test_names e) m i in among_neither (test_names e) (local_names l) m q.1 q.0)
+              (λ m i. let q = among_false (local_names l) (test_names e) m i in
+              among_neither (test_names e) (local_names l) m q.1 q.0)
               (later_on (test_names e) (local_names l) s v x ev.later h.later);
           good = h.good;
           gives = subst (λ t. Gives u r (heap_of x) (Some t) o) (sym w.is) h.gives;
@@ -721,7 +782,8 @@ module _ (u : List ClassT) (laws : UniverseLaws u) (r : Running u) (lawful : IsW
             void = λ m i j. cc;
           };
         })
-        (test_ok u laws r k n set f1 p y e w.tested v ev.good z ev.gives (λ m i j. ev.told.read z m refl i j) l t w refl))
+        (test_ok u laws r k n set f1 p y e w.tested v ev.good z ev.gives
+        (λ m i j. ev.told.read z m refl i j) l t w refl))
     evaluate_ok (paren p e) k n set hidden f t valid sets spelled hides met s g =
         safe_more (evaluate c e s) _ _
         (λ v o h. record {
@@ -735,7 +797,8 @@ module _ (u : List ClassT) (laws : UniverseLaws u) (r : Running u) (lawful : IsW
         let w = valid_unary S k n p o e t valid in
         let f1 = behind_on u r (flow_of u r hidden e) f in
         chain (evaluate c e >>= need) (λ z. operate_one o z.value) s _ _
-        (valued k n set f1 e w.operand s (evaluate_ok e k n set hidden f w.operand w.operand_valid sets spelled.1 hides met s g))
+        (valued k n set f1 e w.operand s (evaluate_ok e k n set hidden f w.operand w.operand_valid sets spelled.1
+        hides met s g))
         (λ v z ev. unary_ok k n set f1 p o e t w.operand s v z spelled.0 w.types ev.later ev.good ev.gives
         (λ b i. ev.told.held z b refl i))
     evaluate_ok (binary p op.AndThen q l m) k n set hidden f t valid sets spelled hides met s g =
@@ -744,13 +807,15 @@ module _ (u : List ClassT) (laws : UniverseLaws u) (r : Running u) (lawful : IsW
         let more = hides_left u laws r k n hidden op.AndThen l w.first w.left_valid hides in
         let f2 = behind_on u r (flow_of u r (usable_by_left op.AndThen l ++ hidden) m) f1 in
         chain (evaluate c l >>= need) (λ z. operate_with (Some true) op.AndThen z.value (evaluate c m >>= need)) s _ _
-        (valued k n set f1 l w.first s (evaluate_ok l k n set hidden f w.first w.left_valid sets.0 spelled.1 hides met.0 s g))
+        (valued k n set f1 l w.first s (evaluate_ok l k n set hidden f w.first w.left_valid sets.0 spelled.1 hides
+        met.0 s g))
         (λ v z ev. and_then_ok k n set f1 f2 l m w.first w.second p q s v z w.left_valid ev
         (λ a i. stays_set (flow_of u r (usable_by_left op.AndThen l ++ hidden) m) f1 a i) t w.types.0 w.types.1
         (λ i. (
           w.right_valid,
           valued (k ++ facts S k n true l) (n ++ test_names l) set f2 m w.second v
-              (evaluate_ok m (k ++ facts S k n true l) (n ++ test_names l) set (usable_by_left op.AndThen l ++ hidden) f1 w.second
+              (evaluate_ok m (k ++ facts S k n true l) (n ++ test_names l) set
+              (usable_by_left op.AndThen l ++ hidden) f1 w.second
               w.right_valid sets.1 spelled.2 more met.1 v
               (known_right k n set f1 f2 l m w.first w.second p q s v z w.left_valid ev
               (λ a i. stays_set (flow_of u r (usable_by_left op.AndThen l ++ hidden) m) f1 a i) true i)),
@@ -761,13 +826,15 @@ module _ (u : List ClassT) (laws : UniverseLaws u) (r : Running u) (lawful : IsW
         let more = hides_left u laws r k n hidden op.OrElse l w.first w.left_valid hides in
         let f2 = behind_on u r (flow_of u r (usable_by_left op.OrElse l ++ hidden) m) f1 in
         chain (evaluate c l >>= need) (λ z. operate_with (Some false) op.OrElse z.value (evaluate c m >>= need)) s _ _
-        (valued k n set f1 l w.first s (evaluate_ok l k n set hidden f w.first w.left_valid sets.0 spelled.1 hides met.0 s g))
+        (valued k n set f1 l w.first s (evaluate_ok l k n set hidden f w.first w.left_valid sets.0 spelled.1 hides
+        met.0 s g))
         (λ v z ev. or_else_ok k n set f1 f2 l m w.first w.second p q s v z w.left_valid ev
         (λ a i. stays_set (flow_of u r (usable_by_left op.OrElse l ++ hidden) m) f1 a i) t w.types.0 w.types.1
         (λ i. (
           w.right_valid,
           valued (k ++ facts S k n false l) (n ++ test_names l) set f2 m w.second v
-              (evaluate_ok m (k ++ facts S k n false l) (n ++ test_names l) set (usable_by_left op.OrElse l ++ hidden) f1 w.second
+              (evaluate_ok m (k ++ facts S k n false l) (n ++ test_names l) set
+              (usable_by_left op.OrElse l ++ hidden) f1 w.second
               w.right_valid sets.1 spelled.2 more met.1 v
               (known_right k n set f1 f2 l m w.first w.second p q s v z w.left_valid ev
               (λ a i. stays_set (flow_of u r (usable_by_left op.OrElse l ++ hidden) m) f1 a i) false i)),
@@ -778,13 +845,15 @@ module _ (u : List ClassT) (laws : UniverseLaws u) (r : Running u) (lawful : IsW
         let more = hides_left u laws r k n hidden op.Implies l w.first w.left_valid hides in
         let f2 = behind_on u r (flow_of u r (usable_by_left op.Implies l ++ hidden) m) f1 in
         chain (evaluate c l >>= need) (λ z. operate_with (Some true) op.Implies z.value (evaluate c m >>= need)) s _ _
-        (valued k n set f1 l w.first s (evaluate_ok l k n set hidden f w.first w.left_valid sets.0 spelled.1 hides met.0 s g))
+        (valued k n set f1 l w.first s (evaluate_ok l k n set hidden f w.first w.left_valid sets.0 spelled.1 hides
+        met.0 s g))
         (λ v z ev. implies_ok k n set f1 f2 l m w.first w.second p q s v z w.left_valid ev
         (λ a i. stays_set (flow_of u r (usable_by_left op.Implies l ++ hidden) m) f1 a i) t w.types.0 w.types.1
         (λ i. (
           w.right_valid,
           valued (k ++ facts S k n true l) (n ++ test_names l) set f2 m w.second v
-              (evaluate_ok m (k ++ facts S k n true l) (n ++ test_names l) set (usable_by_left op.Implies l ++ hidden) f1 w.second
+              (evaluate_ok m (k ++ facts S k n true l) (n ++ test_names l) set
+              (usable_by_left op.Implies l ++ hidden) f1 w.second
               w.right_valid sets.1 spelled.2 more met.1 v
               (known_right k n set f1 f2 l m w.first w.second p q s v z w.left_valid ev
               (λ a i. stays_set (flow_of u r (usable_by_left op.Implies l ++ hidden) m) f1 a i) true i)),
@@ -793,128 +862,163 @@ module _ (u : List ClassT) (laws : UniverseLaws u) (r : Running u) (lawful : IsW
     evaluate_ok (binary p op.Plus q l m) k n set hidden f t valid sets spelled hides met s g =
         let w = valid_binary S k n p op.Plus q l m t valid in
         let f1 = behind_on u r (flow_of u r hidden l) f in
-        both_ok op.Plus p q l m k n set f f1 (behind_on u r (flow_of u r hidden m) f1) t w.first w.second s refl spelled.0 w.types
+        both_ok op.Plus p q l m k n set f f1 (behind_on u r (flow_of u r hidden m) f1) t w.first w.second s refl
+        spelled.0 w.types
         w.left_valid w.right_valid
         (evaluate_ok l k n set hidden f w.first w.left_valid sets.0 spelled.1 hides met.0 s g)
-        (λ v h. evaluate_ok m k (n ++ test_names l) set hidden f1 w.second w.right_valid sets.1 spelled.2 hides met.1 v h)
+        (λ v h. evaluate_ok m k (n ++ test_names l) set hidden f1 w.second w.right_valid sets.1 spelled.2 hides met.1
+        v h)
     evaluate_ok (binary p op.Minus q l m) k n set hidden f t valid sets spelled hides met s g =
         let w = valid_binary S k n p op.Minus q l m t valid in
         let f1 = behind_on u r (flow_of u r hidden l) f in
-        both_ok op.Minus p q l m k n set f f1 (behind_on u r (flow_of u r hidden m) f1) t w.first w.second s refl spelled.0 w.types
+        both_ok op.Minus p q l m k n set f f1 (behind_on u r
+        (flow_of u r hidden m) f1) t w.first w.second s refl spelled.0 w.types
         w.left_valid w.right_valid
         (evaluate_ok l k n set hidden f w.first w.left_valid sets.0 spelled.1 hides met.0 s g)
-        (λ v h. evaluate_ok m k (n ++ test_names l) set hidden f1 w.second w.right_valid sets.1 spelled.2 hides met.1 v h)
+        (λ v h. evaluate_ok m k (n ++ test_names l) set hidden f1 w.second w.right_valid sets.1 spelled.2 hides met.1
+        v h)
     evaluate_ok (binary p op.Times q l m) k n set hidden f t valid sets spelled hides met s g =
         let w = valid_binary S k n p op.Times q l m t valid in
         let f1 = behind_on u r (flow_of u r hidden l) f in
-        both_ok op.Times p q l m k n set f f1 (behind_on u r (flow_of u r hidden m) f1) t w.first w.second s refl spelled.0 w.types
+        both_ok op.Times p q l m k n set f f1 (behind_on u r
+        (flow_of u r hidden m) f1) t w.first w.second s refl spelled.0 w.types
         w.left_valid w.right_valid
         (evaluate_ok l k n set hidden f w.first w.left_valid sets.0 spelled.1 hides met.0 s g)
-        (λ v h. evaluate_ok m k (n ++ test_names l) set hidden f1 w.second w.right_valid sets.1 spelled.2 hides met.1 v h)
+        (λ v h. evaluate_ok m k (n ++ test_names l) set hidden f1 w.second w.right_valid sets.1 spelled.2 hides met.1
+        v h)
     evaluate_ok (binary p op.Divide q l m) k n set hidden f t valid sets spelled hides met s g =
         let w = valid_binary S k n p op.Divide q l m t valid in
         let f1 = behind_on u r (flow_of u r hidden l) f in
-        both_ok op.Divide p q l m k n set f f1 (behind_on u r (flow_of u r hidden m) f1) t w.first w.second s refl spelled.0 w.types
+        both_ok op.Divide p q l m k n set f f1 (behind_on u r
+        (flow_of u r hidden m) f1) t w.first w.second s refl spelled.0 w.types
         w.left_valid w.right_valid
         (evaluate_ok l k n set hidden f w.first w.left_valid sets.0 spelled.1 hides met.0 s g)
-        (λ v h. evaluate_ok m k (n ++ test_names l) set hidden f1 w.second w.right_valid sets.1 spelled.2 hides met.1 v h)
+        (λ v h. evaluate_ok m k (n ++ test_names l) set hidden f1 w.second w.right_valid sets.1 spelled.2 hides met.1
+        v h)
     evaluate_ok (binary p op.Modulo q l m) k n set hidden f t valid sets spelled hides met s g =
         let w = valid_binary S k n p op.Modulo q l m t valid in
         let f1 = behind_on u r (flow_of u r hidden l) f in
-        both_ok op.Modulo p q l m k n set f f1 (behind_on u r (flow_of u r hidden m) f1) t w.first w.second s refl spelled.0 w.types
+        both_ok op.Modulo p q l m k n set f f1 (behind_on u r
+        (flow_of u r hidden m) f1) t w.first w.second s refl spelled.0 w.types
         w.left_valid w.right_valid
         (evaluate_ok l k n set hidden f w.first w.left_valid sets.0 spelled.1 hides met.0 s g)
-        (λ v h. evaluate_ok m k (n ++ test_names l) set hidden f1 w.second w.right_valid sets.1 spelled.2 hides met.1 v h)
+        (λ v h. evaluate_ok m k (n ++ test_names l) set hidden f1 w.second w.right_valid sets.1 spelled.2 hides met.1
+        v h)
     evaluate_ok (binary p op.Power q l m) k n set hidden f t valid sets spelled hides met s g =
         let w = valid_binary S k n p op.Power q l m t valid in
         let f1 = behind_on u r (flow_of u r hidden l) f in
-        both_ok op.Power p q l m k n set f f1 (behind_on u r (flow_of u r hidden m) f1) t w.first w.second s refl spelled.0 w.types
+        both_ok op.Power p q l m k n set f f1 (behind_on u r
+        (flow_of u r hidden m) f1) t w.first w.second s refl spelled.0 w.types
         w.left_valid w.right_valid
         (evaluate_ok l k n set hidden f w.first w.left_valid sets.0 spelled.1 hides met.0 s g)
-        (λ v h. evaluate_ok m k (n ++ test_names l) set hidden f1 w.second w.right_valid sets.1 spelled.2 hides met.1 v h)
+        (λ v h. evaluate_ok m k (n ++ test_names l) set hidden f1 w.second w.right_valid sets.1 spelled.2 hides met.1
+        v h)
     evaluate_ok (binary p op.Equal q l m) k n set hidden f t valid sets spelled hides met s g =
         let w = valid_binary S k n p op.Equal q l m t valid in
         let f1 = behind_on u r (flow_of u r hidden l) f in
-        both_ok op.Equal p q l m k n set f f1 (behind_on u r (flow_of u r hidden m) f1) t w.first w.second s refl spelled.0 w.types
+        both_ok op.Equal p q l m k n set f f1 (behind_on u r
+        (flow_of u r hidden m) f1) t w.first w.second s refl spelled.0 w.types
         w.left_valid w.right_valid
         (evaluate_ok l k n set hidden f w.first w.left_valid sets.0 spelled.1 hides met.0 s g)
-        (λ v h. evaluate_ok m k (n ++ test_names l) set hidden f1 w.second w.right_valid sets.1 spelled.2 hides met.1 v h)
+        (λ v h. evaluate_ok m k (n ++ test_names l) set hidden f1 w.second w.right_valid sets.1 spelled.2 hides met.1
+        v h)
     evaluate_ok (binary p op.NotEqual q l m) k n set hidden f t valid sets spelled hides met s g =
         let w = valid_binary S k n p op.NotEqual q l m t valid in
         let f1 = behind_on u r (flow_of u r hidden l) f in
-        both_ok op.NotEqual p q l m k n set f f1 (behind_on u r (flow_of u r hidden m) f1) t w.first w.second s refl spelled.0 w.types
+        both_ok op.NotEqual p q l m k n set f f1 (behind_on u r
+        (flow_of u r hidden m) f1) t w.first w.second s refl spelled.0 w.types
         w.left_valid w.right_valid
         (evaluate_ok l k n set hidden f w.first w.left_valid sets.0 spelled.1 hides met.0 s g)
-        (λ v h. evaluate_ok m k (n ++ test_names l) set hidden f1 w.second w.right_valid sets.1 spelled.2 hides met.1 v h)
+        (λ v h. evaluate_ok m k (n ++ test_names l) set hidden f1 w.second w.right_valid sets.1 spelled.2 hides met.1
+        v h)
     evaluate_ok (binary p op.Less q l m) k n set hidden f t valid sets spelled hides met s g =
         let w = valid_binary S k n p op.Less q l m t valid in
         let f1 = behind_on u r (flow_of u r hidden l) f in
-        both_ok op.Less p q l m k n set f f1 (behind_on u r (flow_of u r hidden m) f1) t w.first w.second s refl spelled.0 w.types
+        both_ok op.Less p q l m k n set f f1 (behind_on u r (flow_of u r hidden m) f1) t w.first w.second s refl
+        spelled.0 w.types
         w.left_valid w.right_valid
         (evaluate_ok l k n set hidden f w.first w.left_valid sets.0 spelled.1 hides met.0 s g)
-        (λ v h. evaluate_ok m k (n ++ test_names l) set hidden f1 w.second w.right_valid sets.1 spelled.2 hides met.1 v h)
+        (λ v h. evaluate_ok m k (n ++ test_names l) set hidden f1 w.second w.right_valid sets.1 spelled.2 hides met.1
+        v h)
     evaluate_ok (binary p op.Greater q l m) k n set hidden f t valid sets spelled hides met s g =
         let w = valid_binary S k n p op.Greater q l m t valid in
         let f1 = behind_on u r (flow_of u r hidden l) f in
-        both_ok op.Greater p q l m k n set f f1 (behind_on u r (flow_of u r hidden m) f1) t w.first w.second s refl spelled.0 w.types
+        both_ok op.Greater p q l m k n set f f1 (behind_on u r
+        (flow_of u r hidden m) f1) t w.first w.second s refl spelled.0 w.types
         w.left_valid w.right_valid
         (evaluate_ok l k n set hidden f w.first w.left_valid sets.0 spelled.1 hides met.0 s g)
-        (λ v h. evaluate_ok m k (n ++ test_names l) set hidden f1 w.second w.right_valid sets.1 spelled.2 hides met.1 v h)
+        (λ v h. evaluate_ok m k (n ++ test_names l) set hidden f1 w.second w.right_valid sets.1 spelled.2 hides met.1
+        v h)
     evaluate_ok (binary p op.LessEqual q l m) k n set hidden f t valid sets spelled hides met s g =
         let w = valid_binary S k n p op.LessEqual q l m t valid in
         let f1 = behind_on u r (flow_of u r hidden l) f in
-        both_ok op.LessEqual p q l m k n set f f1 (behind_on u r (flow_of u r hidden m) f1) t w.first w.second s refl spelled.0 w.types
+        both_ok op.LessEqual p q l m k n set f f1 (behind_on u r
+        (flow_of u r hidden m) f1) t w.first w.second s refl spelled.0 w.types
         w.left_valid w.right_valid
         (evaluate_ok l k n set hidden f w.first w.left_valid sets.0 spelled.1 hides met.0 s g)
-        (λ v h. evaluate_ok m k (n ++ test_names l) set hidden f1 w.second w.right_valid sets.1 spelled.2 hides met.1 v h)
+        (λ v h. evaluate_ok m k (n ++ test_names l) set hidden f1 w.second w.right_valid sets.1 spelled.2 hides met.1
+        v h)
     evaluate_ok (binary p op.GreaterEqual q l m) k n set hidden f t valid sets spelled hides met s g =
         let w = valid_binary S k n p op.GreaterEqual q l m t valid in
         let f1 = behind_on u r (flow_of u r hidden l) f in
-        both_ok op.GreaterEqual p q l m k n set f f1 (behind_on u r (flow_of u r hidden m) f1) t w.first w.second s refl spelled.0 w.types
+        both_ok op.GreaterEqual p q l m k n set f f1 (behind_on u r
+        (flow_of u r hidden m) f1) t w.first w.second s refl spelled.0 w.types
         w.left_valid w.right_valid
         (evaluate_ok l k n set hidden f w.first w.left_valid sets.0 spelled.1 hides met.0 s g)
-        (λ v h. evaluate_ok m k (n ++ test_names l) set hidden f1 w.second w.right_valid sets.1 spelled.2 hides met.1 v h)
+        (λ v h. evaluate_ok m k (n ++ test_names l) set hidden f1 w.second w.right_valid sets.1 spelled.2 hides met.1
+        v h)
     evaluate_ok (binary p op.And q l m) k n set hidden f t valid sets spelled hides met s g =
         let w = valid_binary S k n p op.And q l m t valid in
         let f1 = behind_on u r (flow_of u r hidden l) f in
-        both_ok op.And p q l m k n set f f1 (behind_on u r (flow_of u r hidden m) f1) t w.first w.second s refl spelled.0 w.types
+        both_ok op.And p q l m k n set f f1 (behind_on u r (flow_of u r hidden m) f1) t w.first w.second s refl
+        spelled.0 w.types
         w.left_valid w.right_valid
         (evaluate_ok l k n set hidden f w.first w.left_valid sets.0 spelled.1 hides met.0 s g)
-        (λ v h. evaluate_ok m k (n ++ test_names l) set hidden f1 w.second w.right_valid sets.1 spelled.2 hides met.1 v h)
+        (λ v h. evaluate_ok m k (n ++ test_names l) set hidden f1 w.second w.right_valid sets.1 spelled.2 hides met.1
+        v h)
     evaluate_ok (binary p op.Or q l m) k n set hidden f t valid sets spelled hides met s g =
         let w = valid_binary S k n p op.Or q l m t valid in
         let f1 = behind_on u r (flow_of u r hidden l) f in
-        both_ok op.Or p q l m k n set f f1 (behind_on u r (flow_of u r hidden m) f1) t w.first w.second s refl spelled.0 w.types
+        both_ok op.Or p q l m k n set f f1 (behind_on u r (flow_of u r hidden m) f1) t w.first w.second s refl
+        spelled.0 w.types
         w.left_valid w.right_valid
         (evaluate_ok l k n set hidden f w.first w.left_valid sets.0 spelled.1 hides met.0 s g)
-        (λ v h. evaluate_ok m k (n ++ test_names l) set hidden f1 w.second w.right_valid sets.1 spelled.2 hides met.1 v h)
+        (λ v h. evaluate_ok m k (n ++ test_names l) set hidden f1 w.second w.right_valid sets.1 spelled.2 hides met.1
+        v h)
     evaluate_ok (binary p op.Xor q l m) k n set hidden f t valid sets spelled hides met s g =
         let w = valid_binary S k n p op.Xor q l m t valid in
         let f1 = behind_on u r (flow_of u r hidden l) f in
-        both_ok op.Xor p q l m k n set f f1 (behind_on u r (flow_of u r hidden m) f1) t w.first w.second s refl spelled.0 w.types
+        both_ok op.Xor p q l m k n set f f1 (behind_on u r (flow_of u r hidden m) f1) t w.first w.second s refl
+        spelled.0 w.types
         w.left_valid w.right_valid
         (evaluate_ok l k n set hidden f w.first w.left_valid sets.0 spelled.1 hides met.0 s g)
-        (λ v h. evaluate_ok m k (n ++ test_names l) set hidden f1 w.second w.right_valid sets.1 spelled.2 hides met.1 v h)
+        (λ v h. evaluate_ok m k (n ++ test_names l) set hidden f1 w.second w.right_valid sets.1 spelled.2 hides met.1
+        v h)
 
     pub arguments_ok : (es : Exs) → ArgumentsKeep es
     arguments_ok no_exs k n set hidden f given valid sets spelled hides met s g = record {
       later = later_same [] s;
       good = g;
-      fit = subst (λ a. AllFit system (heap_of s) (map (closed r) (types_of a)) []) (sym (none_given S k n given valid)) tt;
+      fit = subst (λ a. AllFit system (heap_of s) (map (closed r) (types_of a)) []) (sym
+          (none_given S k n given valid)) tt;
     }
     arguments_ok (and_ex e es) k n set hidden f given valid sets spelled hides met s g =
         let w = more_given S k n e es given valid in
         let f1 = behind_on u r (flow_of u r hidden e) f in
         let f2 = behind_on u r (flow_of_all u r hidden es) f1 in
         chain (evaluate c e >>= need) (λ z. evaluate_all c es >>= (λ vs. give (z.value ∷ vs))) s _ _
-        (valued k n set f1 e w.type s (evaluate_ok e k n set hidden f w.type w.first_valid sets.0 spelled.0 hides met.0 s g))
+        (valued k n set f1 e w.type s (evaluate_ok e k n set hidden f w.type w.first_valid sets.0 spelled.0 hides
+        met.0 s g))
         (λ v z ev. chain (evaluate_all c es) (λ vs. give (z.value ∷ vs)) v _ _
-        (arguments_ok es k (n ++ test_names e) set hidden f1 w.rest w.rest_valid sets.1 spelled.1 hides met.1 v ev.good)
+        (arguments_ok es k (n ++ test_names e) set hidden f1 w.rest w.rest_valid sets.1 spelled.1 hides met.1 v
+        ev.good)
         (λ y vs a. record {
           later = later_on (test_names e) (test_names_in es) s v y ev.later a.later;
           good = a.good;
-          fit = subst (λ a. AllFit system (heap_of y) (map (closed r) (types_of a)) (z.value ∷ vs)) (sym w.is)
-              (fits_grown system (heap_of v) (heap_of y) (closed r w.type) z.value a.later.grown ev.gives.fits, a.fit);
+          fit = subst (λ a. AllFit system (heap_of y) (map (closed r) (types_of a)) (z.value ∷ vs)) (sym w.is) (
+            fits_grown system (heap_of v) (heap_of y) (closed r w.type) z.value a.later.grown ev.gives.fits,
+            a.fit,
+          );
         }))
 
   pub expressions_keep : ExpressionsKeep u r

@@ -1,8 +1,8 @@
 -- What flows need and set.
-use Rattle.std.proofs.Common.{◌≡◌, ℕ, Bool, true, false, List, [], Option, Some, None, refl, sym, ap, subst, ◌∙◌}
-use Rattle.std.specs.Prelude.{◌||◌, ◌&&◌}
+use Rattle.std.proofs.Common.{◌≡◌, Bool, true, false, refl}
+use Rattle.std.specs.Prelude.{◌&&◌}
 use Rattle.eif_classes.specs.Entries.{Declaration}
-use Rattle.eif_flow_rules.specs.FieldSets.{FieldSet, only, union, common}
+use Rattle.eif_flow_rules.specs.FieldSets.{FieldSet}
 use Rattle.eif_flow_rules.specs.FlowTrees.{Flow, idle, reads, shows, sets, calls, in_turn, aside, one_of}
 use Rattle.eif_flow_rules.specs.MetNeeds.{Within, IsMet}
 use Rattle.eif_flow_rules.specs.NeedsAndSets.{Summary, set_after}

@@ -1,8 +1,7 @@
 -- Instructions without faults.
-use Rattle.std.proofs.Common.{◌≡◌, ℕ, zero, suc, Bool, true, false, not, List, [], ◌∷◌, ◌++◌, map, Option, Some, None, refl, sym, ap, subst, ◌∙◌, inl, inr, ⊎_elim}
-use Rattle.std.specs.Prelude.{◌⊎◌, ◌||◌, if◌then◌else◌}
-use Rattle.std.specs.List.{filter}
-use Rattle.std.specs.Option.{option_map, option_map_or, option_and_then}
+use Rattle.std.proofs.Common.{◌≡◌, ℕ, zero, suc, Bool, true, false, List, [], ◌∷◌, ◌++◌, map, Option, Some, None, refl, sym, ap, subst, ◌∙◌, inl, inr, ⊎_elim}
+use Rattle.std.specs.Prelude.{◌||◌, if◌then◌else◌}
+use Rattle.std.specs.Option.{option_map, option_and_then}
 use Rattle.std.specs.Str.{bytes_eq}
 use Rattle.std.proofs.lemmas.Slice.Eq.{bytes_eq-Decides}
 use Rattle.eif_base.specs.declared.code.Code.TheVariants as code
@@ -11,13 +10,13 @@ use Rattle.eif_base.specs.Numbering.{is_among}
 use Rattle.eif_tree.specs.declared.tree.NameAt.{NameAt}
 use Rattle.eif_tree.specs.Members.{result_name}
 use Rattle.eif_tree.specs.Tree.{TypeT, Ex, unqualified, precursor, qualified, Exs, no_exs, and_ex, Ins, assign, call, create, choose, loop, check, Inss, no_inss, and_ins, Branches, no_branches, and_branch, Otherwise, no_else, else_part, ClassT}
-use Rattle.eif_classes.specs.Constraints.{class_in, is_attached}
+use Rattle.eif_classes.specs.Constraints.{class_in}
 use Rattle.eif_classes.specs.Resolution.{resolved}
 use Rattle.eif_classes.specs.Signatures.{Signature, signature}
-use Rattle.eif_classes.specs.Types.{TyT, class_type, formal_type, none_type, Actuals, attached_form, put_in_all, is_self_initialising}
+use Rattle.eif_classes.specs.Types.{TyT, class_type, formal_type, none_type, attached_form, put_in_all, is_self_initialising}
 use Rattle.eif_system.specs.Lineage.{line_of}
 use Rattle.eif_body_rules.specs.CallRules.{Argument}
-use Rattle.eif_body_rules.specs.CreationRules.{Creation, of_written}
+use Rattle.eif_body_rules.specs.CreationRules.{of_written}
 use Rattle.eif_body_rules.specs.ExpressionTypes.{judge, facts}
 use Rattle.eif_body_rules.specs.Facts.{Fact, Usable, usable_test}
 use Rattle.eif_body_rules.specs.InstructionFaults.{judge_each, of_target}
@@ -27,13 +26,11 @@ use Rattle.eif_body_rules.specs.Settings as rules
 use Rattle.eif_body_rules.specs.Settings.{Setting, fits, Entity, entity_of, or_feature, or_entity, or_test, meaning}
 use Rattle.eif_body_rules.specs.TestRules.{test_names, test_names_in}
 use Rattle.eif_flow_rules.specs.FieldSets.{FieldSet}
-use Rattle.eif_flow_rules.specs.FlowSteps.{target_flow, instruction_flow, compound_flow, branches_flow, otherwise_flow}
+use Rattle.eif_flow_rules.specs.FlowSteps.{instruction_flow, compound_flow, branches_flow, otherwise_flow}
 use Rattle.eif_flow_rules.specs.TestLocals.{usable_if_true, usable_if_false}
-use Rattle.eif_meaning.specs.Values as values
-use Rattle.eif_meaning.specs.Values.{Value, ClassType, Object, Seen, State, no_feature, cut_off, Does, ◌>>=◌, give, some_or, need}
+use Rattle.eif_meaning.specs.Values.{Value, Object, Seen, State, no_feature, cut_off, Does, ◌>>=◌, give, some_or, need}
 use Rattle.eif_meaning.specs.System.{System, system_over}
-use Rattle.eif_meaning.specs.Objects.{type_of}
-use Rattle.eif_meaning.specs.Frames.{Frame, written_type, argument, local, entity}
+use Rattle.eif_meaning.specs.Frames.{Frame, written_type, local, entity}
 use Rattle.eif_meaning.specs.Calls.{is_void, call_name, call_on, call_version}
 use Rattle.eif_meaning.specs.Creations.{create_object}
 use Rattle.eif_meaning.specs.Assignments.{set_target, bound_type, entity_type, target_type, created_type}
@@ -44,11 +41,9 @@ use Rattle.eif_valid_bodies.specs.SetReads as reads
 use Rattle.eif_valid_bodies.specs.SetReads.{SetReads, SetReadsEach}
 use Rattle.eif_valid_bodies.specs.Valid.{Valid}
 use Rattle.eif_valid_bodies.specs.ValidCalls as valid_calls
-use Rattle.eif_valid_bodies.specs.ValidInstructions.{ValidExpression, ValidCondition, IsVariable, IsTargetBy, IsTarget, ValidAssign, ValidStatement, ValidCreate, IsCreatedFor, ValidInstruction, ValidCompound, ValidBranches, ValidOtherwise}
-use Rattle.eif_valid_bodies.specs.ValidNodes.{IsCreated}
+use Rattle.eif_valid_bodies.specs.ValidInstructions.{ValidExpression, ValidCondition, IsVariable, IsTargetBy, IsTarget, ValidStatement, IsCreatedFor, ValidInstruction, ValidCompound, ValidBranches, ValidOtherwise}
 use Rattle.eif_valid_bodies.proofs.Calls.{none_whole_given, more_whole_given}
 use Rattle.eif_valid_bodies.proofs.Staying.{fewer_where, fewer_branch, fewer_later, fewer_else, fewer_none, fewer_first, fewer_next, fewer_last}
-use Rattle.eif_run_laws.specs.ObjectTypes.{takes_void}
 use Rattle.eif_run_laws.specs.Holders.{Fits, AllFit, Grow}
 use Rattle.eif_run_laws.specs.Steps.{Safe, heap_of, Extends}
 use Rattle.eif_run_laws.proofs.Lists.{some_is}
@@ -63,19 +58,20 @@ use Rattle.eif_run_sound.specs.UniverseLaws.{IsTypeIn, UniverseLaws}
 use Rattle.eif_run_sound.specs.WrittenTexts.{OfType, IsWritten, AreWritten, InstructionIsWritten, CompoundIsWritten, BranchesAreWritten, OtherwiseIsWritten}
 use Rattle.eif_run_sound.proofs.States.{or_cases, or_left, or_right, chain, later_same, later_on, shows_grown, good_extends, good_known, good_ready}
 use Rattle.eif_run_sound.proofs.Flows.{and_left, and_right}
-use Rattle.eif_run_sound.proofs.Known.{true_or_false, held_both, held_fewer, told_apart}
+use Rattle.eif_run_sound.proofs.Known.{held_both, held_fewer, told_apart}
 use Rattle.eif_run_sound.proofs.Types.{suit, has_base, fits_in}
 use Rattle.eif_run_sound.proofs.Entities.{entity_cases}
 use Rattle.eif_run_sound.proofs.Names.{attached_twice, written_is, no_entity_of, name_ok}
 use Rattle.eif_run_sound.proofs.Targets.{not_void, target_ok}
 use Rattle.eif_run_sound.proofs.Creations.{created_ok}
 use Rattle.eif_run_sound.proofs.Operands.{hides_more, true_is_test, false_is_test}
-use Rattle.eif_run_sound.proofs.Expressions.{stays_set, valued, truth_of, name_set, entity_none, routine, version_ok, evaluate_ok, arguments_ok}
+use Rattle.eif_run_sound.proofs.Expressions.{stays_set, valued, truth_of, entity_none, routine, version_ok, evaluate_ok, arguments_ok}
 use Rattle.eif_run_sound.proofs.Assigned.{set_ok}
 
 -- ---- names that are surely set
 
-kept_or : (ys xs : List (List ℕ)) (z x : List ℕ) (b : Bool) → is_among ys z ≡ b → (bytes_eq x z || is_among xs x) ≡ true
+kept_or : (ys xs : List (List ℕ)) (z x : List ℕ) (b : Bool) → is_among ys z ≡ b
+    → (bytes_eq x z || is_among xs x) ≡ true
     → is_among ys x ≡ true → (is_among xs x ≡ true → is_among (common_names xs ys) x ≡ true)
     → is_among (if b then z ∷ common_names xs ys else common_names xs ys) x ≡ true
 kept_or ys xs z x true e h i rest =
@@ -108,7 +104,8 @@ among_both ys [] x h = cc
 among_both ys (z ∷ xs) x h = both_or ys xs z x (is_among ys z) refl h (among_both ys xs x)
 
 mutual
-  set_stays : (i : Ins) (set : List (List ℕ)) (x : List ℕ) → is_among set x ≡ true → is_among (set_after set i) x ≡ true
+  set_stays : (i : Ins) (set : List (List ℕ)) (x : List ℕ) → is_among set x ≡ true
+      → is_among (set_after set i) x ≡ true
   set_stays (assign y e) set x h = or_right (bytes_eq x y.name) _ h
   set_stays (call e) set x h = h
   set_stays (create p t y f args) set x h = or_right (bytes_eq x y.name) _ h
@@ -125,7 +122,8 @@ mutual
       → is_among other x ≡ true → is_among (set_by_branches set bs other) x ≡ true
   branches_stay no_branches set other x h i = i
   branches_stay (and_branch e is bs) set other x h i =
-      among_kept (set_by_branches set bs other) (set_after_all set is) x (all_set_stays is set x h) (branches_stay bs set other x h i)
+      among_kept (set_by_branches set bs other) (set_after_all set is) x (all_set_stays is set x h)
+      (branches_stay bs set other x h i)
 
   otherwise_stays : (o : Otherwise) (set : List (List ℕ)) (x : List ℕ) → is_among set x ≡ true
       → is_among (set_otherwise set o) x ≡ true
@@ -180,9 +178,14 @@ module _ (u : List ClassT) (laws : UniverseLaws u) (r : Running u) (lawful : IsW
       → Fewer k l → Good u r l set f s → Good u r k set f s
   good_fewer k l set f s fewer g = good_known u r l k set f s g (held_fewer u r k l s fewer g.known)
 
-  done_on : (k : List Fact) (set : List (List ℕ)) (f : FieldSet) (s t v : State) (o : Unit {0}) → Grow (heap_of s) (heap_of t)
+  done_on : (k : List Fact) (set : List (List ℕ)) (f : FieldSet) (s t v : State) (o : Unit {0})
+      → Grow (heap_of s) (heap_of t)
       → Done u r k set f t v o → Done u r k set f s v o
-  done_on k set f s t v o g d = record { grown = grow_on (heap_of s) (heap_of t) (heap_of v) g d.grown; good = d.good }
+  done_on k set f s t v o g d = record {
+    grown = grow_on (heap_of s) (heap_of t)
+        (heap_of v) g d.grown;
+    good = d.good;
+  }
 
   -- ---- conditions
 
@@ -234,7 +237,8 @@ module _ (u : List ClassT) (laws : UniverseLaws u) (r : Running u) (lawful : IsW
       (arguments_ok u laws r lawful args k [] set hidden f w.given w.args_valid valid.1 written.1 hides met.0 s g)
       (λ v vs a. safe_more (call_name c x vs v) _ _
       (λ y o h. (grow_on (heap_of s) (heap_of v) (heap_of y) a.later.grown h.later.grown, h.good))
-      (name_ok u laws r k set hidden f1 p x w.given None vs v a.good hides a.fit (entity_none u laws r lawful x) w.gives
+      (name_ok u laws r k set hidden f1 p x w.given None vs v a.good hides a.fit
+      (entity_none u laws r lawful x) w.gives
       (λ e. no_read w.gives e) met.1))
     where
       no_read : valid_calls.Gives S k x valid.0.given None (meaning S k x) → valid.0.given ≡ []
@@ -263,10 +267,12 @@ module _ (u : List ClassT) (laws : UniverseLaws u) (r : Running u) (lawful : IsW
       (valued u laws r lawful k [] set f1 e w.target s
       (evaluate_ok u laws r lawful e k [] set hidden f w.target w.target_valid valid.1.0 written.0 hides met.0 s g))
       (λ v z ev. chain (evaluate_all c args) (call_on c z x.name) v _ _
-      (arguments_ok u laws r lawful args k (test_names e) set hidden f1 w.given w.args_valid valid.1.1 written.1 hides met.1 v ev.good)
+      (arguments_ok u laws r lawful args k (test_names e) set hidden f1 w.given w.args_valid valid.1.1 written.1 hides
+      met.1 v ev.good)
       (λ y vs a. safe_more (call_on c z x.name vs y) _ _
       (λ l o h. (
-        grow_on (heap_of s) (heap_of v) (heap_of l) ev.later.grown (grow_on (heap_of v) (heap_of y) (heap_of l) a.later.grown h.0.grown),
+        grow_on (heap_of s) (heap_of v) (heap_of l) ev.later.grown (grow_on (heap_of v) (heap_of y)
+            (heap_of l) a.later.grown h.0.grown),
         good_extends u r k set f2 y l a.good h.0,
       ))
       (target_ok u laws r y a.good.heap w.target z x.name w.given None w.signed vs w.target_attached w.found w.called
@@ -283,7 +289,8 @@ module _ (u : List ClassT) (laws : UniverseLaws u) (r : Running u) (lawful : IsW
   each_ok no_exs k set hidden f given valid sets written hides met s g = record {
     later = later_same [] s;
     good = g;
-    fit = subst (λ a. AllFit system (heap_of s) (map (closed r) (types_of a)) []) (sym (none_whole_given S k given valid)) tt;
+    fit = subst (λ a. AllFit system (heap_of s) (map (closed r) (types_of a)) []) (sym
+        (none_whole_given S k given valid)) tt;
   }
   each_ok (and_ex e es) k set hidden f given valid sets written hides met s g =
       let w = more_whole_given S k e es given valid in
@@ -304,7 +311,8 @@ module _ (u : List ClassT) (laws : UniverseLaws u) (r : Running u) (lawful : IsW
   abbrev TargetTyped : List ℕ → TyT → State → Type 0
   TargetTyped x t s = (target_type c x s ≡ Some t) × IsTypeIn u class_of_text t
 
-  module _ (k : List Fact) (set : List (List ℕ)) (f : FieldSet) (s : State) (g : Good u r k set f s) (x : List ℕ) (t : TyT) where
+  module _ (k : List Fact) (set : List (List ℕ)) (f : FieldSet) (s : State) (g : Good u r k set f s) (x : List ℕ)
+      (t : TyT) where
     result_typed : (o : Option TypeT) → r.declaration.tree.result_type ≡ o → option_map (resolved u r.text) o ≡ Some t
         → (option_map (written_type c) o ≡ Some t) × IsTypeIn u class_of_text t
     result_typed None is e = cc
@@ -323,10 +331,12 @@ module _ (u : List ClassT) (laws : UniverseLaws u) (r : Running u) (lawful : IsW
 
     -- of a local or an attribute
     abbrev Typed : Type 0
-    Typed = (bound_type (s.test x) (entity_type c (entity r.declaration.tree x) x) ≡ Some t) × IsTypeIn u class_of_text t
+    Typed = (bound_type (s.test x) (entity_type c (entity r.declaration.tree x) x) ≡ Some t)
+        × IsTypeIn u class_of_text t
 
     variable_typed : (o : Option Usable) (e : Option Entity) (sg : Option Signature) → entity_of S x ≡ e
-        → signature u (line_of u class_of_text) x ≡ sg → IsVariable S x t (or_test (or_entity (or_feature sg) e) o) → Typed
+        → signature u (line_of u class_of_text) x ≡ sg → IsVariable S x t (or_test (or_entity (or_feature sg) e) o)
+        → Typed
     variable_typed (Some w) e sg j l h = absurd h
     variable_typed None (Some e) sg j l h =
         ⊎_elim
@@ -358,10 +368,12 @@ module _ (u : List ClassT) (laws : UniverseLaws u) (r : Running u) (lawful : IsW
       where
         by : (i : Bool) → IsTargetBy i S k x t
             → ((if i then option_map (written_type c) r.declaration.tree.result_type
-            else bound_type (s.test x) (entity_type c (entity r.declaration.tree x) x)) ≡ Some t) × IsTypeIn u class_of_text t
+            else bound_type (s.test x) (entity_type c (entity r.declaration.tree x) x)) ≡ Some t)
+            × IsTypeIn u class_of_text t
         by true target = result_typed r.declaration.tree.result_type refl target
         by false target =
-            variable_typed (usable_test k x) (entity_of S x) (signature u (line_of u class_of_text) x) refl refl target
+            variable_typed (usable_test k x) (entity_of S x) (signature u
+            (line_of u class_of_text) x) refl refl target
 
   -- what fits the attached form of a class type fits the type
   unmarked_fits : (h : List Object) (t : TyT) (d : ℕ) (v : Value) → class_in t ≡ Some d
@@ -370,7 +382,8 @@ module _ (u : List ClassT) (laws : UniverseLaws u) (r : Running u) (lawful : IsW
       let zs = put_in_all r.actuals ys in
       let something = not_void system h (closed r (attached_form (class_type d m ys))) v refl fits in (
         from_object system h (class_type d m zs) v
-            (object_fits system h (attached_form (class_type d m zs)) (class_type d m zs) v (λ o. laws.types.marks o d m zs)
+            (object_fits system h (attached_form (class_type d m zs)) (class_type d m zs) v
+            (λ o. laws.types.marks o d m zs)
             (as_object system h (attached_form (class_type d m zs)) v something fits)),
         something,
       )
@@ -409,7 +422,8 @@ module _ (u : List ClassT) (laws : UniverseLaws u) (r : Running u) (lawful : IsW
       (y : Option NameAt) (t : TyT) (given : List Argument) (vs : List Value) (s : State) → Good u r k set f s
       → IsCreatedFor S p w y given t → OfType (IsTypeOfText u r) w → IsTarget S k x.name t
       → AllFit system (heap_of s) (map (closed r) (types_of given)) vs
-      → Safe (((λ s. some_or no_feature (created_type c w x.name s) (create_object c (written_name y) vs) s) >>= need) s)
+      → Safe (((λ s. some_or no_feature (created_type c w x.name s) (create_object c
+      (written_name y) vs) s) >>= need) s)
       (ForTarget t s)
   created_for k set f p None x y t given vs s g i typed target fit =
       let at = target_typed k set f s g x.name t target in
@@ -425,12 +439,14 @@ module _ (u : List ClassT) (laws : UniverseLaws u) (r : Running u) (lawful : IsW
       (λ v o h. shown_for t t i.class s v o (class_of_attached t i.class i.class_is) (λ z fits. fits) h.0 h.1)
   created_for k set f p (Some w) x y t given vs s g i typed target fit =
       let a = written u r w in
-      chain (λ s. some_or no_feature (created_type c (Some w) x.name s) (create_object c (written_name y) vs) s) need s
+      chain (λ s. some_or no_feature (created_type c (Some w) x.name s) (create_object c
+      (written_name y) vs) s) need s
       (λ v o. Extends system s v × Gives u r (heap_of v) (Some (attached_form a)) o) (ForTarget t s)
       (subst (λ z. Safe (create_object c (written_name y) vs z s)
       (λ v o. Extends system s v × Gives u r (heap_of v) (Some (attached_form a)) o)) (sym (written_is u laws r w))
       (created_ok u laws r s g.heap (of_written S code.Vgci p w y) given vs i.0 typed fit))
-      (λ v o h. shown_for t a i.0.class s v o i.0.class_is (λ z fits. fits_in u laws r (heap_of v) a t z i.1 fits) h.0 h.1)
+      (λ v o h. shown_for t a i.0.class s v o i.0.class_is (λ z fits. fits_in u laws r
+      (heap_of v) a t z i.1 fits) h.0 h.1)
 
   -- ---- the induction
 
@@ -440,7 +456,8 @@ module _ (u : List ClassT) (laws : UniverseLaws u) (r : Running u) (lawful : IsW
       → InstructionIsWritten (IsTypeOfText u r) i → HidesNone u r hidden
       → MetOn u r (instruction_flow (meanings_of u r) hidden i) f → (s : State) → Good u r k set f s
       → Safe (execute c i s)
-      (Done u r (known_after S k i) (set_after set i) (behind_on u r (instruction_flow (meanings_of u r) hidden i) f) s)
+      (Done u r (known_after S k i) (set_after set i) (behind_on u r (instruction_flow
+      (meanings_of u r) hidden i) f) s)
 
   abbrev CompoundKeeps : Inss → Type 0
   CompoundKeeps is =
@@ -448,7 +465,8 @@ module _ (u : List ClassT) (laws : UniverseLaws u) (r : Running u) (lawful : IsW
       → CompoundIsWritten (IsTypeOfText u r) is → HidesNone u r hidden
       → MetOn u r (compound_flow (meanings_of u r) hidden is) f → (s : State) → Good u r k set f s
       → Safe (execute_all c is s)
-      (Done u r (known_after_all S k is) (set_after_all set is) (behind_on u r (compound_flow (meanings_of u r) hidden is) f) s)
+      (Done u r (known_after_all S k is) (set_after_all set is) (behind_on u r (compound_flow
+      (meanings_of u r) hidden is) f) s)
 
   abbrev BranchesKeep : Branches → Otherwise → Type 0
   BranchesKeep bs o =
@@ -476,11 +494,14 @@ module _ (u : List ClassT) (laws : UniverseLaws u) (r : Running u) (lawful : IsW
       → (next : Does (Unit {0}))
       → ((s : State) → Good u r (known_where S k false exit) set f s → Safe (next s) (Done u r k set f s))
       → (s : State) → Good u r k set f s
-      → Safe ((value_of c exit >>= (λ w. condition w.value (λ b. if b then give tt else next))) s) (Done u r k set f s)
+      → Safe ((value_of c exit >>= (λ w. condition w.value (λ b. if b then give tt else next))) s)
+      (Done u r k set f s)
   exit_ok k set hidden f exit valid written hides met next later s g =
-      condition_ok k set hidden f exit valid written hides met s g (λ b. if b then give tt else next) (Done u r k set f s) go
+      condition_ok k set hidden f exit valid written hides met s g (λ b. if b then give tt else next)
+      (Done u r k set f s) go
     where
-      fewer : (b : Bool) (v : State) → Good u r (known_where S k b exit) set (behind_on u r (flow_of u r hidden exit) f) v
+      fewer : (b : Bool) (v : State) → Good u r (known_where S k b exit) set (behind_on u r
+          (flow_of u r hidden exit) f) v
           → Good u r (known_where S k b exit) set f v
       fewer b v good =
           good_less (known_where S k b exit) set f (behind_on u r (flow_of u r hidden exit) f) v
@@ -502,7 +523,8 @@ module _ (u : List ClassT) (laws : UniverseLaws u) (r : Running u) (lawful : IsW
   turns_ok : (n : ℕ) (k : List Fact) (set hidden : List (List ℕ)) (f : FieldSet) (exit : Ex) (body : Inss)
       → ValidCondition S k set exit → IsWritten (IsTypeOfText u r) exit → HidesNone u r hidden
       → MetOn u r (flow_of u r hidden exit) f
-      → ((s : State) → Good u r (known_where S k false exit) set f s → Safe (execute_all c body s) (Done u r k set f s))
+      → ((s : State) → Good u r (known_where S k false exit) set f s
+      → Safe (execute_all c body s) (Done u r k set f s))
       → (s : State) → Good u r k set f s
       → Safe (run_loop n (value_of c exit) (execute_all c body) s) (Done u r k set f s)
   turns_ok zero k set hidden f exit body valid written hides met turn s g =
@@ -510,9 +532,11 @@ module _ (u : List ClassT) (laws : UniverseLaws u) (r : Running u) (lawful : IsW
   turns_ok (suc n) k set hidden f exit body valid written hides met turn s g =
       exit_ok k set hidden f exit valid written hides met
       (execute_all c body >>= (λ _. run_loop n (value_of c exit) (execute_all c body)))
-      (λ v h. chain (execute_all c body) (λ _. run_loop n (value_of c exit) (execute_all c body)) v (Done u r k set f v)
+      (λ v h. chain (execute_all c body) (λ _. run_loop n (value_of c exit) (execute_all c body)) v
+      (Done u r k set f v)
       (Done u r k set f v) (turn v h)
-      (λ x o d. safe_more (run_loop n (value_of c exit) (execute_all c body) x) (Done u r k set f x) (Done u r k set f v)
+      (λ x o d. safe_more (run_loop n (value_of c exit) (execute_all c body) x) (Done u r k set f x)
+      (Done u r k set f v)
       (λ y p e. done_on k set f v x y p d.grown e)
       (turns_ok n k set hidden f exit body valid written hides met turn x d.good)))
       s g
@@ -527,19 +551,22 @@ module _ (u : List ClassT) (laws : UniverseLaws u) (r : Running u) (lawful : IsW
       (Done u r (known_after S k (choose no_branches o)) (set_otherwise set o)
       (behind_on u r (otherwise_flow (meanings_of u r) hidden o) f) s)
 
-  abbrev BranchEnds : Ex → Inss → Branches → Otherwise → List Fact → List (List ℕ) → List (List ℕ) → FieldSet → State → State
+  abbrev BranchEnds : Ex → Inss → Branches → Otherwise → List Fact → List (List ℕ) → List (List ℕ) → FieldSet
+      → State → State
       → Unit {0} → Type 0
   BranchEnds e is bs o k set hidden f s =
       Done u r (known_after S k (choose (and_branch e is bs) o))
       (set_by_branches set (and_branch e is bs) (set_otherwise set o))
-      (behind_on u r (branches_flow (meanings_of u r) hidden (and_branch e is bs) (λ ns. otherwise_flow (meanings_of u r) ns o)) f)
+      (behind_on u r (branches_flow (meanings_of u r) hidden (and_branch e is bs) (λ ns. otherwise_flow
+      (meanings_of u r) ns o)) f)
       s
 
   branch_by : (e : Ex) (is : Inss) (bs : Branches) (o : Otherwise) → CompoundKeeps is → BranchesKeep bs o
       → BranchesKeep (and_branch e is bs) o
   branch_by e is bs o first rest k set hidden f valid other written last hides met s g =
       condition_ok k set hidden f e valid.0 written.0 hides met.0 s g
-      (λ b. if b then execute_all c is else execute_branches c bs (execute_otherwise c o)) (BranchEnds e is bs o k set hidden f s) go
+      (λ b. if b then execute_all c is else execute_branches c bs (execute_otherwise c o))
+      (BranchEnds e is bs o k set hidden f s) go
     where
       go : (b : Bool) (v : State) → Grow (heap_of s) (heap_of v)
           → Good u r (known_where S k b e) set (behind_on u r (flow_of u r hidden e) f) v
@@ -556,8 +583,10 @@ module _ (u : List ClassT) (laws : UniverseLaws u) (r : Running u) (lawful : IsW
                 (λ z q. (among_both (set_by_branches set bs (set_otherwise set o)) (set_after_all set is) z q).0)
                 (good_less _ (set_after_all set is) _ _ y (λ m q. and_left _ _ q) d.good));
           })
-          (first (known_where S k true e) set (usable_if_true e ++ hidden) (behind_on u r (flow_of u r hidden e) f) valid.1
-          written.1 (hides_more u laws r k [] hidden e valid.0.type (usable_if_true e) valid.0.valid hides (true_is_test e))
+          (first (known_where S k true e) set (usable_if_true e ++ hidden) (behind_on u r
+          (flow_of u r hidden e) f) valid.1
+          written.1 (hides_more u laws r k [] hidden e valid.0.type (usable_if_true e) valid.0.valid hides
+          (true_is_test e))
           met.1.0 v good)
       go false v grown good =
           safe_more (execute_branches c bs (execute_otherwise c o) v) _ _
@@ -570,8 +599,10 @@ module _ (u : List ClassT) (laws : UniverseLaws u) (r : Running u) (lawful : IsW
                 (λ z q. (among_both (set_by_branches set bs (set_otherwise set o)) (set_after_all set is) z q).1)
                 (good_less _ (set_by_branches set bs (set_otherwise set o)) _ _ y (λ m q. and_right _ _ q) d.good));
           })
-          (rest (known_where S k false e) set (usable_if_false e ++ hidden) (behind_on u r (flow_of u r hidden e) f) valid.2 other
-          written.2 last (hides_more u laws r k [] hidden e valid.0.type (usable_if_false e) valid.0.valid hides (false_is_test e))
+          (rest (known_where S k false e) set (usable_if_false e ++ hidden) (behind_on u r
+          (flow_of u r hidden e) f) valid.2 other
+          written.2 last (hides_more u laws r k [] hidden e valid.0.type (usable_if_false e) valid.0.valid hides
+          (false_is_test e))
           met.1.1 v good)
 
   mutual
@@ -580,12 +611,15 @@ module _ (u : List ClassT) (laws : UniverseLaws u) (r : Running u) (lawful : IsW
         let f1 = behind_on u r (flow_of u r hidden e) f in
         chain (value_of c e) (λ v. set_target c x.name v.value) s _ _
         (valued u laws r lawful k [] set f1 e valid.source s
-        (evaluate_ok u laws r lawful e k [] set hidden f valid.source valid.source_valid valid.reads written hides met.0 s g))
+        (evaluate_ok u laws r lawful e k [] set hidden f valid.source valid.source_valid valid.reads written hides
+        met.0 s g))
         (λ v w ev. safe_more (set_target c x.name w.value v) _ _
         (λ y o d. record { grown = grow_on (heap_of s) (heap_of v) (heap_of y) ev.later.grown d.0; good = d.1 })
-        (set_ok u laws r lawful k set hidden f1 x valid.target w.value (has_attached_type S (judge S k [] e).value) v ev.good hides
+        (set_ok u laws r lawful k set hidden f1 x valid.target w.value (has_attached_type S
+        (judge S k [] e).value) v ev.good hides
         (fits_in u laws r (heap_of v) valid.source valid.target w.value valid.fit ev.gives.fits)
-        (attached_source k (heap_of v) valid.source valid.target (judge S k [] e).value w.value valid.source_valid.value valid.fit
+        (attached_source k (heap_of v) valid.source valid.target
+        (judge S k [] e).value w.value valid.source_valid.value valid.fit
         ev.gives.fits)
         (entity_none u laws r lawful x.name) valid.is_target))
     execute_ok (call e) k set hidden f valid written hides met s g =
@@ -595,13 +629,16 @@ module _ (u : List ClassT) (laws : UniverseLaws u) (r : Running u) (lawful : IsW
         let f1 = behind_on u r (flow_of_all u r hidden args) f in
         chain (evaluate_all c args) (run_creation c w x y) s _ _
         (each_ok args k set hidden f valid.given valid.args_valid valid.reads written.1 hides met.0 s g)
-        (λ v vs a. chain ((λ s. some_or no_feature (created_type c w x.name s) (create_object c (written_name y) vs) s) >>= need)
+        (λ v vs a. chain ((λ s. some_or no_feature (created_type c w x.name s) (create_object c
+        (written_name y) vs) s) >>= need)
         (λ z. set_target c x.name z.value) v _ _
-        (created_for k set f1 p w x y valid.target valid.given vs v a.good valid.created written.0 valid.is_target a.fit)
+        (created_for k set f1 p w x y valid.target valid.given vs v a.good valid.created written.0 valid.is_target
+        a.fit)
         (λ l z h. let good = good_extends u r k set f1 v l a.good h.0 in
         safe_more (set_target c x.name z.value l) _ _
         (λ m o d. record {
-          grown = grow_on (heap_of s) (heap_of v) (heap_of m) a.later.grown (grow_on (heap_of v) (heap_of l) (heap_of m) h.0.grown d.0);
+          grown = grow_on (heap_of s) (heap_of v) (heap_of m) a.later.grown (grow_on (heap_of v) (heap_of l)
+              (heap_of m) h.0.grown d.0);
           good = d.1;
         })
         (set_ok u laws r lawful k set hidden f1 x valid.target z.value true l good hides h.1 (λ q. h.2)
@@ -612,7 +649,8 @@ module _ (u : List ClassT) (laws : UniverseLaws u) (r : Running u) (lawful : IsW
         let f1 = behind_on u r (compound_flow (meanings_of u r) hidden start) f in
         let at = known_in_loop S k start body in
         let set1 = set_after_all set start in
-        let hides_exit = hides_more u laws r at [] hidden exit valid.1.type (usable_if_false exit) valid.1.valid hides (false_is_test exit) in
+        let hides_exit = hides_more u laws r at [] hidden exit valid.1.type
+        (usable_if_false exit) valid.1.valid hides (false_is_test exit) in
         chain (execute_all c start) (λ _. run_loop c.turns (value_of c exit) (execute_all c body)) s _ _
         (execute_all_ok start k set hidden f valid.0 written.0 hides met.0 s g)
         (λ v o d. safe_more (run_loop c.turns (value_of c exit) (execute_all c body) v) _ _
@@ -632,16 +670,22 @@ module _ (u : List ClassT) (laws : UniverseLaws u) (r : Running u) (lawful : IsW
               (all_set_stays body set1)
               (good_less (known_after_all S (known_where S at false exit) body) (set_after_all set1 body) f1
               (behind_on u r (compound_flow (meanings_of u r) (usable_if_false exit ++ hidden) body) f1) y
-              (stays_set u laws r lawful (compound_flow (meanings_of u r) (usable_if_false exit ++ hidden) body) f1) e.good));
+              (stays_set u laws r lawful (compound_flow (meanings_of u r)
+              (usable_if_false exit ++ hidden) body) f1) e.good));
         })
-        (execute_all_ok body (known_where S at false exit) set1 (usable_if_false exit ++ hidden) f1 valid.2 written.2 hides_exit
+        (execute_all_ok body (known_where S at false exit) set1
+        (usable_if_false exit ++ hidden) f1 valid.2 written.2 hides_exit
         met.1.1 t h))
         v (good_fewer at (known_after_all S k start) set1 f1 v (fewer_first S k start body) d.good)))
     execute_ok (check claims) k set hidden f valid written hides met s g =
         record { grown = grow_same (heap_of s); good = g }
 
     execute_all_ok : (is : Inss) → CompoundKeeps is
-    execute_all_ok no_inss k set hidden f valid written hides met s g = record { grown = grow_same (heap_of s); good = g }
+    execute_all_ok no_inss k set hidden f valid written hides met s g = record {
+      grown = grow_same
+          (heap_of s);
+      good = g;
+    }
     execute_all_ok (and_ins i is) k set hidden f valid written hides met s g =
         chain (execute c i) (λ _. execute_all c is) s _ _
         (execute_ok i k set hidden f valid.0 written.0 hides met.0 s g)
@@ -653,15 +697,21 @@ module _ (u : List ClassT) (laws : UniverseLaws u) (r : Running u) (lawful : IsW
     branches_ok : (bs : Branches) (o : Otherwise) → OtherwiseKeeps o → BranchesKeep bs o
     branches_ok no_branches o otherwise =
         λ k set hidden f valid other written last hides met s g. otherwise k set hidden f other last hides met s g
-    branches_ok (and_branch e is bs) o otherwise = branch_by e is bs o (execute_all_ok is) (branches_ok bs o otherwise)
+    branches_ok (and_branch e is bs) o otherwise = branch_by e is bs o (execute_all_ok is)
+        (branches_ok bs o otherwise)
 
     otherwise_ok : (o : Otherwise) → OtherwiseKeeps o
     otherwise_ok no_else k set hidden f valid written hides met s g =
         record { grown = grow_same (heap_of s); good = good_fewer _ k set f s (fewer_none S k) g }
     otherwise_ok (else_part is) k set hidden f valid written hides met s g =
         safe_more (execute_all c is s) _ _
-        (λ v p d. record { grown = d.grown; good = good_fewer _ (known_after_all S k is) _ _ v (fewer_else S k is) d.good })
+        (λ v p d. record {
+          grown = d.grown;
+          good = good_fewer _ (known_after_all S k is) _ _ v
+              (fewer_else S k is) d.good;
+        })
         (execute_all_ok is k set hidden f valid written hides met s g)
 
   pub compounds_keep : CompoundsKeep u r
-  compounds_keep k set hidden f is valid written hides met s g = execute_all_ok is k set hidden f valid written hides met s g
+  compounds_keep k set hidden f is valid written hides met s g = execute_all_ok is k set hidden f valid written hides
+      met s g

@@ -1,5 +1,5 @@
 -- What is known, by facts of both of two lists.
-use Rattle.std.proofs.Common.{◌≡◌, ℕ, Bool, true, false, List, [], ◌∷◌, ◌++◌, map, Option, Some, None, refl, sym, ap, subst, ◌∙◌, inl, inr, ⊎_elim}
+use Rattle.std.proofs.Common.{◌≡◌, ℕ, Bool, true, false, List, [], ◌∷◌, ◌++◌, Option, Some, None, refl, sym, ap, ◌∙◌, inl, inr, ⊎_elim}
 use Rattle.std.specs.Prelude.{◌⊎◌, ◌||◌, if◌then◌else◌}
 use Rattle.std.specs.Str.{bytes_eq}
 use Rattle.std.proofs.lemmas.Slice.Eq.{bytes_eq-Decides}
@@ -7,17 +7,16 @@ use Rattle.eif_base.specs.Numbering.{is_among}
 use Rattle.eif_tree.specs.Tree.{Ex, ClassT}
 use Rattle.eif_classes.specs.Types.{TyT}
 use Rattle.eif_body_rules.specs.ExpressionTypes.{judge, facts, all_attached}
-use Rattle.eif_body_rules.specs.Facts.{Fact, attached, usable, Usable, earlier, is_known_attached, usable_test}
+use Rattle.eif_body_rules.specs.Facts.{Fact, attached, usable, earlier, is_known_attached, usable_test}
 use Rattle.eif_body_rules.specs.Settings.{Setting}
 use Rattle.eif_body_rules.specs.TestRules.{test_names}
-use Rattle.eif_meaning.specs.Values.{Value, Seen, State}
+use Rattle.eif_meaning.specs.Values.{Value, State}
 use Rattle.eif_meaning.specs.Calls.{is_void}
 use Rattle.eif_valid_bodies.specs.KnownStays.{Fewer}
 use Rattle.eif_valid_bodies.specs.Valid.{Valid}
 use Rattle.eif_valid_bodies.proofs.TestsFree.{tests_free, told_is_own}
-use Rattle.eif_run_laws.specs.Steps.{heap_of}
 use Rattle.eif_run_sound.specs.Bodies.{Running}
-use Rattle.eif_run_sound.specs.Invariant.{Shows, held_in, Held}
+use Rattle.eif_run_sound.specs.Invariant.{held_in, Held}
 use Rattle.eif_run_sound.proofs.States.{or_cases, or_left, or_right}
 
 -- ---- both lists
@@ -47,7 +46,8 @@ pub usable_right : (k l : List Fact) (x : List ℕ) → usable_test k x ≡ None
 usable_right [] l x e = refl
 usable_right (attached y ∷ k) l x e = usable_right k l x e
 usable_right (usable y t ∷ k) l x e =
-    if_none (bytes_eq y x) (earlier t (usable_test k x)) (usable_test k x) (usable_test (k ++ l) x) (usable_test l x) e
+    if_none (bytes_eq y x) (earlier t (usable_test k x)) (usable_test k x) (usable_test (k ++ l) x)
+    (usable_test l x) e
     (usable_right k l x) (earlier t (usable_test (k ++ l) x))
 
 -- no name has a usable test in both

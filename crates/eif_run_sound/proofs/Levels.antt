@@ -1,6 +1,6 @@
 -- Bodies at levels.
 use Rattle.std.proofs.Common.{◌≡◌, ℕ, zero, suc, Bool, true, false, List, [], ◌∷◌, ◌++◌, map, flat_map, Option, Some, None, refl, sym, ap, subst, ◌∙◌, inl, inr, ⊎_elim}
-use Rattle.std.specs.Prelude.{◌⊎◌, ◌||◌, cond, if◌then◌else◌, find, slice_get}
+use Rattle.std.specs.Prelude.{◌⊎◌, ◌||◌, cond, if◌then◌else◌, find}
 use Rattle.std.specs.Option.{option_map, option_map_or, option_and_then}
 use Rattle.std.specs.Str.{bytes_eq}
 use Rattle.std.proofs.lemmas.Slice.Eq.{bytes_eq-Decides}
@@ -15,7 +15,7 @@ use Rattle.eif_classes.specs.Entries.{Declaration}
 use Rattle.eif_classes.specs.Features.{local_groups, is_attribute}
 use Rattle.eif_classes.specs.KernelNumbers.{any_number}
 use Rattle.eif_classes.specs.Resolution.{resolved}
-use Rattle.eif_classes.specs.Signatures.{Signature, signature, declared_signature, with_actuals}
+use Rattle.eif_classes.specs.Signatures.{Signature, signature, with_actuals}
 use Rattle.eif_classes.specs.Types.{TyT, none_type, Actuals, no_actuals, put_in, is_self_initialising}
 use Rattle.eif_feature_rules.specs.DeclarationRules.{is_deferred_kind}
 use Rattle.eif_system.specs.Lineage.{line_of}
@@ -32,24 +32,21 @@ use Rattle.eif_meaning.specs.KernelBodies.{BuiltIn, built_in_body}
 use Rattle.eif_meaning.specs.KernelTypes.{plain_type, string_type, out_name}
 use Rattle.eif_meaning.specs.System.{System, system_over}
 use Rattle.eif_meaning.specs.Objects.{start, start_value, object_of}
-use Rattle.eif_meaning.specs.Frames.{Runner, Frame, type_in, entity_by, Entity, argument, local, entity, argument_names, arguments_by, first_state}
-use Rattle.eif_meaning.specs.Calls.{is_void, through, feature_on, seen_as}
-use Rattle.eif_meaning.specs.BuiltIns.{any_class}
+use Rattle.eif_meaning.specs.Frames.{Runner, Frame, type_in, entity_by, Entity, argument, local, entity, arguments_by, first_state}
+use Rattle.eif_meaning.specs.Calls.{feature_on, seen_as}
 use Rattle.eif_meaning.specs.Evaluation.{evaluate_literal}
 use Rattle.eif_meaning.specs.Execution.{execute_all}
 use Rattle.eif_meaning.specs.Run.{finish, run_written, run_code, frame, level}
 use Rattle.eif_valid_bodies.specs.SetReads as reads
-use Rattle.eif_valid_bodies.specs.ValidBodies.{ValidEntities, ValidKind, ValidRoutine}
-use Rattle.eif_run_laws.specs.ObjectTypes.{IsMade, Over}
-use Rattle.eif_run_laws.specs.Holders as holders
-use Rattle.eif_run_laws.specs.Holders.{IsSet, Fits, AllFit, Answers, IsHeap}
-use Rattle.eif_run_laws.specs.KernelSignatures.{signature_of}
+use Rattle.eif_valid_bodies.specs.ValidBodies.{ValidKind, ValidRoutine}
+use Rattle.eif_run_laws.specs.ObjectTypes.{IsMade}
+use Rattle.eif_run_laws.specs.Holders.{IsSet, Fits, AllFit, Answers}
 use Rattle.eif_run_laws.specs.OperatorLaws.{EndsIn}
 use Rattle.eif_run_laws.specs.OperatorLaws as laws_of
-use Rattle.eif_run_laws.specs.BuiltInLaws.{IsCurrent, OutGives, BodyEnds}
+use Rattle.eif_run_laws.specs.BuiltInLaws.{OutGives, BodyEnds}
 use Rattle.eif_run_laws.specs.Steps.{Safe, heap_of, Extends}
 use Rattle.eif_run_laws.proofs.Lists.{some_is}
-use Rattle.eif_run_laws.proofs.Growing.{grow_same, object_stays}
+use Rattle.eif_run_laws.proofs.Growing.{object_stays}
 use Rattle.eif_run_laws.proofs.Fitting.{fits_conforming, start_fits, object_made, as_object}
 use Rattle.eif_run_laws.proofs.Keeps.{safe_more, safe_after}
 use Rattle.eif_run_laws.proofs.Operands.{literal_given}
@@ -88,7 +85,8 @@ module _ (u : List ClassT) (c : ClassT) (xs : Actuals) (h : List Object) (x : Li
       by true f = let q : true ≡ false = sym ((bytes_eq-Decides a b).1 (sym ((bytes_eq-Decides b a).0 f))) ∙ e in cc
       by false f = f
 
-  name_or : (n : NameAt) (ns : List NameAt) (t : TyT) (rest : List NameAt) (ts : List TyT) (v : Value) (vs : List Value)
+  name_or : (n : NameAt) (ns : List NameAt) (t : TyT) (rest : List NameAt) (ts : List TyT) (v : Value)
+      (vs : List Value)
       (i : Bool) → bytes_eq n.name x ≡ i → Fits (system_over u) h (put_in xs t) v → InNames ns t rest ts vs
       → InNames (n ∷ ns) t rest ts (v ∷ vs)
   name_or n ns t rest ts v vs true e fit behind =
@@ -117,7 +115,8 @@ module _ (u : List ClassT) (c : ClassT) (xs : Actuals) (h : List Object) (x : Li
   in_groups (g ∷ gs) vs fit t e =
       let rest = flat_map (λ (g : GroupT). g.names) gs in
       let ts = flat_map (λ (g : GroupT). map (λ n. resolved u c g.type_tree) g.names) gs in
-      let first = λ (i : Bool). option_map (λ (g : GroupT). g.type_tree) (cond i (Some g) (find (λ g. has_name g.names x) gs)) in
+      let first = λ (i : Bool). option_map (λ (g : GroupT). g.type_tree) (cond i (Some g) (find
+      (λ g. has_name g.names x) gs)) in
       ⊎_elim
       (λ p. let type : g.type_tree ≡ t = some_is (sym (ap first p.0) ∙ e) in
       subst (λ t. Holds (resolved u c t) (arguments_by (g.names ++ rest) vs x)) type p.1)
@@ -130,22 +129,30 @@ in_group_names : (ns : List NameAt) (x : List ℕ) → is_among (map (λ n. n.na
 in_group_names [] x h = h
 in_group_names (n ∷ ns) x h =
     or_cases (bytes_eq x n.name) (is_among (map (λ n. n.name) ns) x) h
-    (λ q. or_left (bytes_eq n.name x) (has_name ns x) ((bytes_eq-Decides n.name x).1 (sym ((bytes_eq-Decides x n.name).0 q))))
+    (λ q. or_left (bytes_eq n.name x) (has_name ns x) ((bytes_eq-Decides n.name x).1 (sym
+    ((bytes_eq-Decides x n.name).0 q))))
     (λ q. or_right (bytes_eq n.name x) (has_name ns x) (in_group_names ns x q))
 
 named_or : (g : GroupT) (gs : List GroupT) (x : List ℕ) → is_among (group_names (g ∷ gs)) x ≡ true → (i : Bool)
     → has_name g.names x ≡ i → (is_among (group_names gs) x ≡ true → (t : TypeT) × (type_in gs x ≡ Some t))
     → (t : TypeT) × (type_in (g ∷ gs) x ≡ Some t)
-named_or g gs x h true e rest =
-    (g.type_tree, ap (λ i. option_map (λ (g : GroupT). g.type_tree) (cond i (Some g) (find (λ g. has_name g.names x) gs))) e)
+named_or g gs x h true e rest = (
+  g.type_tree,
+  ap (λ i. option_map (λ (g : GroupT). g.type_tree) (cond i (Some g) (find
+      (λ g. has_name g.names x) gs))) e,
+)
 named_or g gs x h false e rest =
     among_cases (map (λ n. n.name) g.names) (group_names gs) x h
     (λ q. let n : true ≡ false = sym (in_group_names g.names x q) ∙ e in cc)
-    (λ q. let p = rest q in
-    (p.0, ap (λ i. option_map (λ (g : GroupT). g.type_tree) (cond i (Some g) (find (λ g. has_name g.names x) gs))) e ∙ p.1))
+    (λ q. let p = rest q in (
+      p.0,
+      ap (λ i. option_map (λ (g : GroupT). g.type_tree) (cond i (Some g) (find
+          (λ g. has_name g.names x) gs))) e ∙ p.1,
+    ))
 
 -- a name of the groups has a type
-named_type : (gs : List GroupT) (x : List ℕ) → is_among (group_names gs) x ≡ true → (t : TypeT) × (type_in gs x ≡ Some t)
+named_type : (gs : List GroupT) (x : List ℕ) → is_among (group_names gs) x ≡ true
+    → (t : TypeT) × (type_in gs x ≡ Some t)
 named_type [] x h = cc
 named_type (g ∷ gs) x h = named_or g gs x h (has_name g.names x) refl (named_type gs x)
 
@@ -157,7 +164,8 @@ start_is_set t true e h = tt
 start_is_set t false e h = cc
 
 module _ (u : List ClassT) (laws : UniverseLaws u) (turns : ℕ) (again : Runner) (runs : RunsBodies u again)
-    (v : Value) (y : Declaration) (xs : Actuals) (vs : List Value) (f : FieldSet) (s : Store) (e : Enters u s.heap v y xs vs f) where
+    (v : Value) (y : Declaration) (xs : Actuals) (vs : List Value) (f : FieldSet) (s : Store)
+    (e : Enters u s.heap v y xs vs f) where
   abbrev system : System
   system = system_over u
 
@@ -203,7 +211,8 @@ module _ (u : List ClassT) (laws : UniverseLaws u) (turns : ℕ) (again : Runner
 
   -- a body without a text leaves the fields as they are
   ready_unset : (t : State) → Extends system first t → body_of y.tree.kind ≡ no_inss
-      → (o : Object) → object_of t.store.heap v ≡ Some o → Ready u (behind u o.made.class_number (flow_on u o.made.class_number y) f) o
+      → (o : Object) → object_of t.store.heap v ≡ Some o → Ready u (behind u o.made.class_number
+      (flow_on u o.made.class_number y) f) o
   ready_unset t ends empty o at =
       let p = object_stays s.heap t.store.heap ends.grown v e.object e.there in
       subst (λ is. Ready u (behind u o.made.class_number
@@ -217,14 +226,17 @@ module _ (u : List ClassT) (laws : UniverseLaws u) (turns : ℕ) (again : Runner
   out_gives w t heap something fits =
       let o = as_object system (heap_of t) (plain_type any_number) w something fits in
       let over = laws.types.down o.object any_number Attached no_actuals o.conforms in
-      let answered = laws.features.answered o.object.made (object_made system laws.types (heap_of t) w o.object heap o.there)
+      let answered = laws.features.answered o.object.made (object_made system laws.types
+      (heap_of t) w o.object heap o.there)
       any_number no_actuals over out_name (record { arguments = []; result = Some string_type }) laws.features.out in
       subst (λ p. Safe (some_or no_feature p
-      (λ g. feature_on c w any_number out_name [] >>= (λ a. give (seen_as (option_map (put_in no_actuals) g.result) a))) t)
+      (λ g. feature_on c w any_number out_name [] >>= (λ a. give (seen_as (option_map
+      (put_in no_actuals) g.result) a))) t)
       (EndsIn system string_type t)) (sym laws.features.out)
       (chain (feature_on c w any_number out_name []) (λ a. give (seen_as (Some string_type) a)) t
       (Called u laws r (Some string_type) t) (EndsIn system string_type t)
-      (on_complete u laws r t heap w o.object o.there o.object.made refl any_number out_name [] (Some string_type) answered []
+      (on_complete u laws r t heap w o.object o.there o.object.made refl any_number out_name []
+      (Some string_type) answered []
       tt o.complete)
       go)
     where
@@ -233,7 +245,8 @@ module _ (u : List ClassT) (laws : UniverseLaws u) (turns : ℕ) (again : Runner
       go x None h = absurd h.1
       go x (Some z) h = (h.0, (h.1, refl))
 
-  built_in_ok : (b : BuiltIn) → built_in_body y.class_number y.name ≡ Some b → Safe (run_code c vs (Some b) first) Left
+  built_in_ok : (b : BuiltIn) → built_in_body y.class_number y.name ≡ Some b
+      → Safe (run_code c vs (Some b) first) Left
   built_in_ok b is =
       let k = laws.bodies.built_in y e.routine b is in
       let same = ap (with_actuals xs) k.signature_is in
@@ -271,7 +284,8 @@ module _ (u : List ClassT) (laws : UniverseLaws u) (turns : ℕ) (again : Runner
         heap = h.0.heap;
         grown = h.0.grown;
         answers = subst (λ o. Answers system t.store.heap o (Some z.value)) type
-            (fits_conforming system laws.types (heap_of t) (put_in xs (types.literal_type x)) (put_in xs (resolved u text k.0)) z.value
+            (fits_conforming system laws.types (heap_of t) (put_in xs (types.literal_type x)) (put_in xs
+            (resolved u text k.0)) z.value
             (laws.open_types.closes y.class_number xs suit (types.literal_type x) (resolved u text k.0) k.2)
             (subst (λ a. Fits system (heap_of t) a z.value) (literal_types x) h.1));
         ready = ready_unset t h.0 (ap body_of is);
@@ -284,7 +298,8 @@ module _ (u : List ClassT) (laws : UniverseLaws u) (turns : ℕ) (again : Runner
 
   -- ---- written bodies
 
-  module _ (locals : List GroupT) (body : Inss) (is : y.tree.kind ≡ routine locals body) (k : IsWrittenBody u y text body) where
+  module _ (locals : List GroupT) (body : Inss) (is : y.tree.kind ≡ routine locals body)
+      (k : IsWrittenBody u y text body) where
     abbrev lawful : IsWrittenRoutine u r
     lawful = record {
       no_field = e.routine.no_field;
@@ -297,18 +312,22 @@ module _ (u : List ClassT) (laws : UniverseLaws u) (turns : ℕ) (again : Runner
     -- what begins by a type that is written
     starts : (t : TypeT) (w : Value) → start (system.resolve y.class_number t) ≡ Some w
         → Fits system s.heap (put_in xs (resolved u text t)) w
-    starts t w at = start_fits system laws.types s.heap xs (resolved u text t) w (sym (ap start (written_here t)) ∙ at)
+    starts t w at = start_fits system laws.types s.heap xs (resolved u text t) w (sym (ap start
+        (written_here t)) ∙ at)
 
-    sure : (x : List ℕ) (t : TypeT) → reads.IsSet [] x (resolved u text t) → IsSet (start (system.resolve y.class_number t))
+    sure : (x : List ℕ) (t : TypeT) → reads.IsSet [] x (resolved u text t)
+        → IsSet (start (system.resolve y.class_number t))
     sure x t h =
         subst (λ t. IsSet (start t)) (sym (written_here t))
         (start_is_set (resolved u text t) (is_self_initialising (resolved u text t)) refl h)
 
     from_start : (o : Option TypeT) (t : TypeT) (w : Value) → o ≡ Some t
-        → option_and_then (λ t. start (system.resolve y.class_number t)) o ≡ Some w → start (system.resolve y.class_number t) ≡ Some w
+        → option_and_then (λ t. start (system.resolve y.class_number t)) o ≡ Some w
+        → start (system.resolve y.class_number t) ≡ Some w
     from_start o t w e at = sym (ap (option_and_then (λ t. start (system.resolve y.class_number t))) e) ∙ at
 
-    local_type : (x : List ℕ) (t : TypeT) → entity y.tree x ≡ Some (local t) → type_in (local_groups y.tree.kind) x ≡ Some t
+    local_type : (x : List ℕ) (t : TypeT) → entity y.tree x ≡ Some (local t)
+        → type_in (local_groups y.tree.kind) x ≡ Some t
     local_type x t i = by (type_in y.tree.arguments x) (type_in (local_groups y.tree.kind) x) i
       where
         by : (a b : Option TypeT) → entity_by a b ≡ Some (local t) → b ≡ Some t
@@ -316,7 +335,8 @@ module _ (u : List ClassT) (laws : UniverseLaws u) (turns : ℕ) (again : Runner
         by None (Some b) i = let q : b ≡ t = cc in ap Some q
         by None None i = cc
 
-    argument_type : (x : List ℕ) (t : TypeT) → entity y.tree x ≡ Some (argument t) → type_in y.tree.arguments x ≡ Some t
+    argument_type : (x : List ℕ) (t : TypeT) → entity y.tree x ≡ Some (argument t)
+        → type_in y.tree.arguments x ≡ Some t
     argument_type x t i = by (type_in y.tree.arguments x) (type_in (local_groups y.tree.kind) x) i
       where
         by : (a b : Option TypeT) → entity_by a b ≡ Some (argument t) → a ≡ Some t
@@ -334,10 +354,12 @@ module _ (u : List ClassT) (laws : UniverseLaws u) (turns : ℕ) (again : Runner
       arguments = λ x t i. in_groups u text xs s.heap x y.tree.arguments vs e.fit t (argument_type x t i);
       locals = λ x t i w at. starts t w (from_start (type_in (local_groups y.tree.kind) x) t w (local_type x t i) at);
       locals_set = λ x t i h.
-          subst (λ o. IsSet (option_and_then (λ t. start (system.resolve y.class_number t)) o)) (sym (local_type x t i)) (sure x t h);
+          subst (λ o. IsSet (option_and_then (λ t. start (system.resolve y.class_number t)) o)) (sym
+          (local_type x t i)) (sure x t h);
       result = λ t i w at. starts t w (from_start y.tree.result_type t w i at);
       result_set = λ t i h.
-          subst (λ o. IsSet (option_and_then (λ t. start (system.resolve y.class_number t)) o)) (sym i) (sure result_name t h);
+          subst (λ o. IsSet (option_and_then (λ t. start (system.resolve y.class_number t)) o)) (sym i)
+          (sure result_name t h);
       tests = λ x w i. cc;
       known = held_none u r first;
     }
@@ -359,7 +381,8 @@ module _ (u : List ClassT) (laws : UniverseLaws u) (turns : ℕ) (again : Runner
     hides : HidesNone u r (entity_names y.tree)
     hides x h =
         or_cases (bytes_eq x result_name) _ h
-        (λ q. subst (λ n. signature u (line_of u y.class_number) n ≡ None) (sym ((bytes_eq-Decides x result_name).0 q))
+        (λ q. subst (λ n. signature u (line_of u y.class_number) n ≡ None) (sym
+        ((bytes_eq-Decides x result_name).0 q))
         (laws.features.no_result y.class_number))
         (λ q. among_cases (group_names y.tree.arguments) (group_names (local_groups y.tree.kind)) x q
         (λ i. let t = named_type y.tree.arguments x i in
@@ -389,7 +412,8 @@ module _ (u : List ClassT) (laws : UniverseLaws u) (turns : ℕ) (again : Runner
       ready = λ o at.
           subst (λ (o : Object). Ready u (behind u o.made.class_number (flow_on u o.made.class_number y) f) o)
           (some_is (sym ended.good.there ∙ at))
-          (subst (λ (ty : ClassType). Ready u (behind u ty.class_number (flow_on u ty.class_number y) f) ended.good.object)
+          (subst (λ (ty : ClassType). Ready u (behind u ty.class_number
+          (flow_on u ty.class_number y) f) ended.good.object)
           (sym ended.good.made)
           (subst (λ m. Ready u (behind u d m f) ended.good.object) (sym flow_is) ended.good.ready));
     }
@@ -399,12 +423,14 @@ module _ (u : List ClassT) (laws : UniverseLaws u) (turns : ℕ) (again : Runner
         (behind u d flow f) first t tt
         → reads.ResultIsSet (set_after_all [] body) (option_map (resolved u text) o) → Safe (finish o t) Left
     finish_ok t None i ended set =
-        leaves t None ended (subst (λ o. Answers system t.store.heap (option_map (put_in xs) (option_map (resolved u text) o)) None) (sym i) tt)
+        leaves t None ended (subst (λ o. Answers system t.store.heap (option_map (put_in xs) (option_map
+        (resolved u text) o)) None) (sym i) tt)
     finish_ok t (Some a) i ended set =
         let w = set_is t.result (ended.good.result_set a i set) in
         subst (λ o. Safe (some_or unset o (λ v. give (Some v)) t) Left) (sym w.1)
         (leaves t (Some w.0) ended
-        (subst (λ o. Answers system t.store.heap (option_map (put_in xs) (option_map (resolved u text) o)) (Some w.0)) (sym i)
+        (subst (λ o. Answers system t.store.heap (option_map (put_in xs) (option_map (resolved u text) o))
+        (Some w.0)) (sym i)
         (ended.good.result a i w.0 w.1)))
 
     written_ok : Safe (run_written c (routine locals body) first) Left
@@ -423,11 +449,13 @@ module _ (u : List ClassT) (laws : UniverseLaws u) (turns : ℕ) (again : Runner
 
   -- ---- a body
 
-  by_kind : (kind : KindT) → y.tree.kind ≡ kind → built_in_body y.class_number y.name ≡ None → Safe (run_written c kind first) Left
+  by_kind : (kind : KindT) → y.tree.kind ≡ kind → built_in_body y.class_number y.name ≡ None
+      → Safe (run_written c kind first) Left
   by_kind attribute is none = let q : true ≡ false = sym (ap is_attribute is) ∙ e.routine.no_field in cc
   by_kind (constant x) is none = constant_ok x none is
   by_kind deferred_body is none = let q : true ≡ false = sym (ap is_deferred_kind is) ∙ e.routine.effective in cc
-  by_kind (routine locals body) is none = written_ok locals body is (laws.bodies.routine_of y e.routine locals body none is)
+  by_kind (routine locals body) is none = written_ok locals body is
+      (laws.bodies.routine_of y e.routine locals body none is)
 
   by_body : (o : Option BuiltIn) → built_in_body y.class_number y.name ≡ o → Safe (run_code c vs o first) Left
   by_body (Some b) is = built_in_ok b is

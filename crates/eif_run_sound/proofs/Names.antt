@@ -1,12 +1,10 @@
 -- Names: test locals, arguments, locals and features of Current.
 use Rattle.std.proofs.Common.{◌≡◌, ℕ, Bool, true, false, List, [], ◌∷◌, map, Option, Some, None, refl, sym, ap, subst, ◌∙◌, inl, inr, ⊎_elim}
-use Rattle.std.specs.Prelude.{◌⊎◌, ◌||◌, if◌then◌else◌, slice_get}
+use Rattle.std.specs.Prelude.{◌⊎◌, if◌then◌else◌}
 use Rattle.std.specs.Option.{option_map, option_map_or}
 use Rattle.eif_base.specs.declared.place.Place.{Place}
 use Rattle.eif_base.specs.Numbering.{is_among}
-use Rattle.eif_tree.specs.declared.tree.Mark.{Mark}
 use Rattle.eif_tree.specs.declared.tree.Mark.TheVariants.{Attached}
-use Rattle.eif_tree.specs.Members.{result_name}
 use Rattle.eif_tree.specs.Tree.{TypeT, ClassT}
 use Rattle.eif_classes.specs.Binding.{bind}
 use Rattle.eif_classes.specs.Resolution.{resolved, own_type, own_formals}
@@ -20,35 +18,34 @@ use Rattle.eif_body_rules.specs.Settings.{Setting, Meaning, test_local, feature,
 use Rattle.eif_body_rules.specs.Settings as rules
 use Rattle.eif_flow_rules.specs.FieldSets.{FieldSet}
 use Rattle.eif_flow_rules.specs.FlowSteps.{unless_hidden}
-use Rattle.eif_flow_rules.specs.FlowTrees.{Flow, idle, shows}
+use Rattle.eif_flow_rules.specs.FlowTrees.{Flow, idle}
 use Rattle.eif_flow_rules.specs.VersionFlows.{use_of}
-use Rattle.eif_meaning.specs.Values.{Value, ClassType, Object, Seen, State, Does, unset, no_feature, ◌>>=◌, give, some_or}
+use Rattle.eif_meaning.specs.Values.{Value, ClassType, Object, Seen, State, unset, no_feature, ◌>>=◌, give, some_or}
 use Rattle.eif_meaning.specs.System.{System, system_over}
-use Rattle.eif_meaning.specs.Objects.{type_of, object_of, field_type}
+use Rattle.eif_meaning.specs.Objects.{type_of, field_type}
 use Rattle.eif_meaning.specs.Frames.{Frame, written_type, argument, local, Entity, entity}
 use Rattle.eif_meaning.specs.Operands.{give_seen}
-use Rattle.eif_meaning.specs.Calls.{is_void, read_entity, entity_or_feature, bound_or, call_name, feature_on, feature_of, seen_as}
+use Rattle.eif_meaning.specs.Calls.{is_void, read_entity, entity_or_feature, bound_or, call_name, feature_on, seen_as}
 use Rattle.eif_meaning.specs.Evaluation.{current_type, read_result}
 use Rattle.eif_valid_bodies.specs.SetReads as reads
 use Rattle.eif_valid_bodies.specs.Valid.{HasType}
 use Rattle.eif_valid_bodies.specs.ValidCalls.{IsCalled}
 use Rattle.eif_valid_bodies.specs.ValidCalls as valid
-use Rattle.eif_run_laws.specs.Holders.{IsSet, IsComplete, Fits, AllFit, IsHeap}
+use Rattle.eif_run_laws.specs.Holders.{IsComplete, Fits, AllFit}
 use Rattle.eif_run_laws.specs.ObjectTypes.{IsMade, Over}
-use Rattle.eif_run_laws.specs.Steps.{Safe, heap_of, Extends}
+use Rattle.eif_run_laws.specs.Steps.{Safe, heap_of}
 use Rattle.eif_run_laws.proofs.Lists.{some_is}
 use Rattle.eif_run_laws.proofs.Fitting.{from_object, fits_attached}
-use Rattle.eif_run_laws.proofs.Keeps.{safe_more, safe_after}
 use Rattle.eif_run_sound.specs.Bodies.{Running, frame_of, setting_of, meanings_of, written, closed}
 use Rattle.eif_run_sound.specs.ExpressionRuns.{IsEntity, MetOn, behind_on, HidesNone, types_of}
-use Rattle.eif_run_sound.specs.Fields.{Ready, due}
-use Rattle.eif_run_sound.specs.Invariant.{Shows, Gives, held_by, held_in, DenotesNothing, Held, Good, Later}
-use Rattle.eif_run_sound.specs.UniverseLaws.{all_closed, maybe_closed, UniverseLaws}
+use Rattle.eif_run_sound.specs.Fields.{due}
+use Rattle.eif_run_sound.specs.Invariant.{Shows, Gives, held_by, held_in, DenotesNothing, Good, Later}
+use Rattle.eif_run_sound.specs.UniverseLaws.{UniverseLaws}
 use Rattle.eif_run_sound.proofs.States.{or_left, or_right, chain, later_same, later_extends, good_extends, good_ready}
 use Rattle.eif_run_sound.proofs.Known.{true_or_false}
-use Rattle.eif_run_sound.proofs.Types.{suit, all_fit, answers_seen, closed_list}
+use Rattle.eif_run_sound.proofs.Types.{suit, all_fit, answers_seen}
 use Rattle.eif_run_sound.proofs.Entities.{entity_cases}
-use Rattle.eif_run_sound.proofs.Calls.{Called, set_is, used_ok}
+use Rattle.eif_run_sound.proofs.Calls.{set_is, used_ok}
 
 -- ---- types
 
@@ -102,7 +99,8 @@ pub local_set : (s : Setting) (k : List Fact) (set : List (List ℕ)) (x : List 
 unfolding meaning
 local_set s k set x e h none some is =
     subst (λ o. reads.LocalIsSet set x (or_test (or_entity (or_feature (signature s.universe s.line x)) o) None)) some
-    (subst (λ o. reads.LocalIsSet set x (or_test (or_entity (or_feature (signature s.universe s.line x)) (entity_of s x)) o))
+    (subst (λ o. reads.LocalIsSet set x (or_test (or_entity (or_feature (signature s.universe s.line x))
+    (entity_of s x)) o))
     none h) is
 
 no_values : (system : System) (h : List Object) (ts : List Argument) (xs : Actuals) (vs : List Value) → ts ≡ []
@@ -168,14 +166,16 @@ module _ (u : List ClassT) (laws : UniverseLaws u) (r : Running u) where
   -- ---- what a name gives
 
   -- nothing but the store has changed; a name of an argument or a local has given what that holds
-  pub record Named (k : List Fact) (set : List (List ℕ)) (f : FieldSet) (x : List ℕ) (result : Option TyT) (s t : State)
+  pub record Named (k : List Fact) (set : List (List ℕ)) (f : FieldSet) (x : List ℕ) (result : Option TyT)
+      (s t : State)
       (o : Option Seen) : Type 0 where
     pub later : Later [] s t
     pub good : Good u r k set f t
     pub gives : Gives u r (heap_of t) result o
     pub read : (w : Seen) → o ≡ Some w → IsEntity (entity r.declaration.tree x) → held_in u r t x ≡ Some w.value
 
-  module _ (k : List Fact) (set hidden : List (List ℕ)) (f : FieldSet) (p : Place) (x : List ℕ) (given : List Argument)
+  module _ (k : List Fact) (set hidden : List (List ℕ)) (f : FieldSet) (p : Place) (x : List ℕ)
+      (given : List Argument)
       (result : Option TyT) (vs : List Value) (s : State) (g : Good u r k set f s) (hides : HidesNone u r hidden)
       (fit : AllFit system (heap_of s) (map (closed r) (types_of given)) vs) where
     abbrev flow : Flow
@@ -241,7 +241,8 @@ module _ (u : List ClassT) (laws : UniverseLaws u) (r : Running u) where
         (subst (λ t. Some (seen_type (is_known_attached k x) t) ≡ result) type seen)
         (seen_as_known (written u r a) v fits (λ h. g.known.attached x h v held)) (λ h. held))
 
-    read_argument : (a : TypeT) (e : rules.Entity) → entity c.tree x ≡ Some (argument a) → e.type ≡ resolved u r.text a
+    read_argument : (a : TypeT) (e : rules.Entity) → entity c.tree x ≡ Some (argument a)
+        → e.type ≡ resolved u r.text a
         → Some (seen_type (is_known_attached k x) e.type) ≡ result → signature u (line_of u class_of_text) x ≡ None
         → Safe (read_entity c x (argument a) s) NameEnds
     read_argument a e is type seen none =
@@ -266,8 +267,10 @@ module _ (u : List ClassT) (laws : UniverseLaws u) (r : Running u) where
         (subst (λ vs. Safe (entity_or_feature c x vs (Some en) s) NameEnds)
         (sym (no_values system (heap_of s) given r.actuals vs none fit)) h))
 
-    name_entity : (signature_none : (e : rules.Entity) → entity_of S x ≡ Some e → signature u (line_of u class_of_text) x ≡ None)
-        → DenotesEntity S k x given result → reads.LocalIsSet set x (meaning S k x) → Safe (call_name c x vs s) NameEnds
+    name_entity : (signature_none : (e : rules.Entity) → entity_of S x ≡ Some e
+        → signature u (line_of u class_of_text) x ≡ None)
+        → DenotesEntity S k x given result → reads.LocalIsSet set x (meaning S k x)
+        → Safe (call_name c x vs s) NameEnds
     name_entity none d set_reads =
         let e = d.1 in
         ⊎_elim
@@ -298,7 +301,8 @@ module _ (u : List ClassT) (laws : UniverseLaws u) (r : Running u) where
         (subst (λ o. Safe (some_or no_feature o
         (λ g. feature_on c r.current class_of_text x vs >>= (λ a. give (seen_as (option_map (λ t. t) g.result) a))) s)
         NameEnds) (sym d.2)
-        (chain (feature_on c r.current class_of_text x vs) (λ a. give (seen_as (option_map (λ t. t) sg.result) a)) s _ NameEnds
+        (chain (feature_on c r.current class_of_text x vs) (λ a. give (seen_as (option_map
+        (λ t. t) sg.result) a)) s _ NameEnds
         (used_ok u laws r k set f s g x sg vs d.2 (all_fit u laws r (heap_of s) given sg.arguments vs d.3.fit fit) p
         (subst (λ m. MetOn u r m f) flows met))
         (λ t a h.
@@ -306,8 +310,10 @@ module _ (u : List ClassT) (laws : UniverseLaws u) (r : Running u) where
         record {
           later = later_extends system [] s t h.0.0;
           good = subst (λ m. Good u r k set (behind_on u r m f) t) (sym flows)
-              (good_ready u r k set f (behind_on u r ((meanings_of u r).used p x) f) t good (h.1 good.object good.there));
-          gives = subst (λ o. Gives u r (heap_of t) o (seen_as (option_map (λ t. t) sg.result) a)) (same_result sg.result ∙ d.4)
+              (good_ready u r k set f (behind_on u r ((meanings_of u r).used p x) f) t good
+              (h.1 good.object good.there));
+          gives = subst (λ o. Gives u r (heap_of t) o (seen_as (option_map (λ t. t) sg.result) a))
+              (same_result sg.result ∙ d.4)
               (answers_seen u laws r (heap_of t) r.actuals (λ t. t) (λ t. refl) sg.result a h.0.1);
           read = λ w e i. absurd (subst IsEntity none i);
         }))))

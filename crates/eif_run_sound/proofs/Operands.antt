@@ -1,14 +1,11 @@
 -- What operators tell of their operands.
-use Rattle.std.proofs.Common.{◌≡◌, ℕ, Bool, true, false, not, List, [], ◌∷◌, ◌++◌, Option, Some, None, refl, sym, ap, subst, ◌∙◌, inl, inr, ⊎_elim}
-use Rattle.std.specs.Prelude.{◌⊎◌, ◌||◌, ◌&&◌, if◌then◌else◌}
-use Rattle.std.specs.Str.{bytes_eq}
-use Rattle.eif_base.specs.declared.place.Place.{Place}
+use Rattle.std.proofs.Common.{◌≡◌, ℕ, Bool, true, false, List, [], ◌++◌, Option, Some, None, refl, sym, ap, subst, ◌∙◌, inl, inr, ⊎_elim}
+use Rattle.std.specs.Prelude.{if◌then◌else◌}
 use Rattle.eif_base.specs.Numbering.{is_among}
 use Rattle.eif_tree.specs.declared.tree.NameAt.{NameAt}
 use Rattle.eif_tree.specs.declared.tree.Op.{Op}
 use Rattle.eif_tree.specs.declared.tree.Op.TheVariants as op
-use Rattle.eif_tree.specs.Tree.{Ex, literal, void_value, current_value, result_value, unqualified, precursor, qualified, creation, test, paren, unary, binary, ClassT}
-use Rattle.eif_classes.specs.Signatures.{signature}
+use Rattle.eif_tree.specs.Tree.{Ex, test, paren, unary, binary, ClassT}
 use Rattle.eif_classes.specs.Types.{TyT}
 use Rattle.eif_body_rules.specs.Conditions as conditions
 use Rattle.eif_body_rules.specs.Conditions.{name_in, tested_name, compared_name}
@@ -17,7 +14,7 @@ use Rattle.eif_body_rules.specs.Facts.{Fact, Usable, is_known_attached, usable_t
 use Rattle.eif_body_rules.specs.Settings.{Setting, is_testable}
 use Rattle.eif_body_rules.specs.TestRules.{local_names, test_names}
 use Rattle.eif_flow_rules.specs.TestLocals.{local_name, usable_if_true, usable_if_false, usable_by_left}
-use Rattle.eif_meaning.specs.Values.{Value, void, integer, boolean, character, reference, Seen, State}
+use Rattle.eif_meaning.specs.Values.{Value, void, integer, boolean, character, reference, State}
 use Rattle.eif_meaning.specs.Calls.{is_void}
 use Rattle.eif_meaning.specs.Frames.{entity}
 use Rattle.eif_meaning.specs.Operators.{same_value}
@@ -72,7 +69,8 @@ mutual
       (λ i. among_right (test_names l) (test_names r) x (false_is_test r x i))
   false_is_test _ x h = cc
 
-left_is_test : (o : Op) (e : Ex) (x : List ℕ) → is_among (usable_by_left o e) x ≡ true → is_among (test_names e) x ≡ true
+left_is_test : (o : Op) (e : Ex) (x : List ℕ) → is_among (usable_by_left o e) x ≡ true
+    → is_among (test_names e) x ≡ true
 left_is_test op.AndThen e x h = true_is_test e x h
 left_is_test op.Implies e x h = true_is_test e x h
 left_is_test op.OrElse e x h = false_is_test e x h
@@ -100,7 +98,8 @@ fewer_right k l apart = record {
 }
 
 -- an operand tells of other tests than the one on its left
-pub operands_apart : (s : Setting) (k : List Fact) (n : List (List ℕ)) (a b : Bool) (l r : Ex) (j : List Fact) (t : TyT)
+pub operands_apart : (s : Setting) (k : List Fact) (n : List (List ℕ)) (a b : Bool) (l r : Ex) (j : List Fact)
+    (t : TyT)
     → Valid (judge s j (n ++ test_names l) r) t
     → Apart (facts s k n a l) (facts s j (n ++ test_names l) b r)
 operands_apart s k n a b l r j t valid x = ⊎_elim

@@ -1,14 +1,14 @@
 -- Runs from the root.
-use Rattle.std.proofs.Common.{◌≡◌, ℕ, Bool, true, false, not, List, [], ◌∷◌, Option, Some, None, refl, sym, ap, subst, ◌∙◌}
+use Rattle.std.proofs.Common.{◌≡◌, ℕ, Bool, true, false, not, List, [], ◌∷◌, Option, Some, None, refl, sym, ap, subst}
 use Rattle.std.specs.Prelude.{◌&&◌, if◌then◌else◌, slice_get}
 use Rattle.std.specs.Option.{option_map_or, option_and_then}
 use Rattle.eif_tree.specs.Tree.{ClassT}
 use Rattle.eif_classes.specs.KernelNumbers.{is_basic}
 use Rattle.eif_flow_rules.specs.FieldSets.{no_fields}
-use Rattle.eif_meaning.specs.Values.{reference, ClassType, Object, Store, no_feature, Outcome, done, stopped, cut_off, wrong}
+use Rattle.eif_meaning.specs.Values.{reference, Store, no_feature, Outcome, done, stopped, cut_off, wrong}
 use Rattle.eif_meaning.specs.System.{System, declaration_in, system_over}
 use Rattle.eif_meaning.specs.Objects.{new_object}
-use Rattle.eif_meaning.specs.Run.{level, root_store, run_root, Ran, went_wrong, ran, run_class, run, IsWrong}
+use Rattle.eif_meaning.specs.Run.{level, root_store, run_root, went_wrong, ran, run_class, run, IsWrong}
 use Rattle.eif_run_laws.specs.Holders.{IsHeap}
 use Rattle.eif_run_laws.specs.Steps.{Safe}
 use Rattle.eif_run_laws.proofs.Heaps.{heap_created}
@@ -34,7 +34,8 @@ not_basic (Some c) true h = never c.is_deferred h
     never true h = cc
     never false h = cc
 
-module _ (u : List ClassT) (laws : UniverseLaws u) (class_name procedure : List ℕ) (root : IsRoot u class_name procedure) (n : ℕ) where
+module _ (u : List ClassT) (laws : UniverseLaws u) (class_name procedure : List ℕ)
+    (root : IsRoot u class_name procedure) (n : ℕ) where
   abbrev system : System
   system = system_over u
 
@@ -43,7 +44,8 @@ module _ (u : List ClassT) (laws : UniverseLaws u) (class_name procedure : List 
 
   first_heap : IsHeap system (new_object system (root_type d) ∷ [])
   first_heap =
-      heap_created system laws.types [] (root_type d) (λ q o e. cc) root.made (not_basic (slice_get u d) (is_basic d) root.creatable)
+      heap_created system laws.types [] (root_type d) (λ q o e. cc) root.made (not_basic (slice_get u d)
+      (is_basic d) root.creatable)
 
   root_ok : IsWrong (ran (run_root n system d (system.origin d procedure))) → ⊥
   root_ok =
@@ -57,5 +59,6 @@ module _ (u : List ClassT) (laws : UniverseLaws u) (class_name procedure : List 
   pub run_ok : IsWrong (run n system class_name procedure) → ⊥
   run_ok =
       subst (λ o. IsWrong (run_class n system procedure o) → ⊥) (sym root.named)
-      (subst (λ t. IsWrong (if t then ran (run_root n system d (system.origin d procedure)) else went_wrong no_feature []) → ⊥)
+      (subst (λ t. IsWrong (if t then ran (run_root n system d
+      (system.origin d procedure)) else went_wrong no_feature []) → ⊥)
       (sym root.creatable) root_ok)

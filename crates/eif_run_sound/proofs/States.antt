@@ -1,23 +1,22 @@
 -- Later states, and the invariant in them.
-use Rattle.std.proofs.Common.{◌≡◌, ℕ, Bool, true, false, List, [], ◌∷◌, ◌++◌, Option, Some, None, refl, sym, ap, subst, ◌∙◌}
+use Rattle.std.proofs.Common.{◌≡◌, ℕ, Bool, true, false, List, [], ◌++◌, Option, Some, None, refl, sym, ap, subst, ◌∙◌}
 use Rattle.std.specs.Prelude.{◌||◌}
 use Rattle.std.specs.Str.{bytes_eq}
 use Rattle.std.proofs.lemmas.List.Folds.{list_any-append}
 use Rattle.eif_base.specs.Numbering.{is_among}
-use Rattle.eif_tree.specs.Tree.{TypeT, ClassT}
-use Rattle.eif_classes.specs.Types.{TyT, is_self_initialising, put_in}
+use Rattle.eif_tree.specs.Tree.{ClassT}
+use Rattle.eif_classes.specs.Types.{TyT}
 use Rattle.eif_body_rules.specs.Facts.{Fact, Usable, usable_test}
 use Rattle.eif_flow_rules.specs.FieldSets.{FieldSet}
-use Rattle.eif_meaning.specs.Values.{Value, ClassType, Object, Store, Seen, State, Outcome, Does, after, ◌>>=◌}
+use Rattle.eif_meaning.specs.Values.{ClassType, Object, Seen, State, Does, ◌>>=◌}
 use Rattle.eif_meaning.specs.System.{System, system_over}
-use Rattle.eif_meaning.specs.Objects.{field_type, object_of}
+use Rattle.eif_meaning.specs.Objects.{field_type}
 use Rattle.eif_meaning.specs.Frames.{Entity, argument, local, entity}
 use Rattle.eif_run_laws.specs.Holders.{IsSet, Fits, IsHeap, Stays, Grow}
-use Rattle.eif_run_laws.specs.Steps.{Safe, heap_of, with_store, Extends}
-use Rattle.eif_run_laws.proofs.Lists.{some_is}
+use Rattle.eif_run_laws.specs.Steps.{Safe, heap_of, Extends}
 use Rattle.eif_run_laws.proofs.Growing.{grow_same, grow_on, object_stays, fits_grown}
-use Rattle.eif_run_laws.proofs.Keeps.{safe_after, safe_more}
-use Rattle.eif_run_sound.specs.Bodies.{Running, frame_of, written, closed}
+use Rattle.eif_run_laws.proofs.Keeps.{safe_after}
+use Rattle.eif_run_sound.specs.Bodies.{Running, written, closed}
 use Rattle.eif_run_sound.specs.Fields.{Ready}
 use Rattle.eif_run_sound.specs.Invariant.{Shows, held_by, held_in, DenotesNothing, Held, Good, Later}
 
@@ -52,7 +51,8 @@ among_neither xs ys x h i =
 
 pub among_cases : {P : Type 0} (xs ys : List (List ℕ)) (x : List ℕ) → is_among (xs ++ ys) x ≡ true
     → (is_among xs x ≡ true → P) → (is_among ys x ≡ true → P) → P
-among_cases xs ys x h f g = or_cases (is_among xs x) (is_among ys x) (sym (list_any-append (bytes_eq x) xs ys) ∙ h) f g
+among_cases xs ys x h f g = or_cases (is_among xs x) (is_among ys x) (sym (list_any-append
+    (bytes_eq x) xs ys) ∙ h) f g
 
 pub among_left : (xs ys : List (List ℕ)) (x : List ℕ) → is_among xs x ≡ true → is_among (xs ++ ys) x ≡ true
 among_left xs ys x h = list_any-append (bytes_eq x) xs ys ∙ or_left (is_among xs x) (is_among ys x) h
@@ -114,7 +114,11 @@ module _ (u : List ClassT) (r : Running u) where
   held_in_later names s t x l = held_by_later names s t x (entity r.declaration.tree x) l
 
   pub shows_grown : (h k : List Object) (t : TyT) (w : Seen) → Grow h k → Shows u r h t w → Shows u r k t w
-  shows_grown h k t w g s = record { fits = fits_grown (system_over u) h k (closed r t) w.value g s.fits; seen = s.seen }
+  shows_grown h k t w g s = record {
+    fits = fits_grown (system_over u) h k
+        (closed r t) w.value g s.fits;
+    seen = s.seen;
+  }
 
   -- what is known stays so, but for tests whose locals are bound anew
   pub held_later : (k : List Fact) (names : List (List ℕ)) (s t : State) → Held u r k s → Later names s t

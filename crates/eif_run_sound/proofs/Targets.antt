@@ -1,5 +1,5 @@
 -- Calls on targets, and of versions of parents.
-use Rattle.std.proofs.Common.{◌≡◌, ℕ, Bool, true, false, List, [], ◌∷◌, map, Option, Some, None, refl, sym, ap, ap₂, subst, ◌∙◌}
+use Rattle.std.proofs.Common.{◌≡◌, ℕ, true, false, List, map, Option, Some, None, refl, sym, ap, subst, ◌∙◌}
 use Rattle.std.specs.Prelude.{if◌then◌else◌, is_some}
 use Rattle.std.specs.Option.{option_map, option_map_or, option_and_then}
 use Rattle.eif_tree.specs.declared.tree.Mark.{Mark}
@@ -14,18 +14,18 @@ use Rattle.eif_body_rules.specs.CallRules.{Argument, base_line, base_actuals}
 use Rattle.eif_body_rules.specs.Settings.{Setting}
 use Rattle.eif_meaning.specs.Values.{Value, void, integer, boolean, character, reference, ClassType, Object, Seen, State, void_target, no_feature, fail, ◌>>=◌, give, some_or}
 use Rattle.eif_meaning.specs.System.{System, system_over}
-use Rattle.eif_meaning.specs.Objects.{type_of, object_of}
+use Rattle.eif_meaning.specs.Objects.{object_of}
 use Rattle.eif_meaning.specs.Frames.{Frame}
-use Rattle.eif_meaning.specs.Calls.{is_void, unmarked, seen_class, through, call_on, feature_on, feature_of, seen_as}
+use Rattle.eif_meaning.specs.Calls.{is_void, unmarked, seen_class, through, call_on, feature_on, seen_as}
 use Rattle.eif_valid_bodies.specs.ValidCalls.{IsCalled}
-use Rattle.eif_run_laws.specs.ObjectTypes.{takes_void, IsMade, Over}
-use Rattle.eif_run_laws.specs.Holders.{IsComplete, IsObject, Fits, AllFit, IsHeap}
+use Rattle.eif_run_laws.specs.ObjectTypes.{takes_void, Over}
+use Rattle.eif_run_laws.specs.Holders.{IsComplete, Fits, AllFit, IsHeap}
 use Rattle.eif_run_laws.specs.Steps.{Safe, heap_of, Extends}
 use Rattle.eif_run_laws.proofs.Fitting.{as_object, object_made}
 use Rattle.eif_run_sound.specs.Bodies.{Running, frame_of, setting_of, closed}
 use Rattle.eif_run_sound.specs.ExpressionRuns.{types_of}
 use Rattle.eif_run_sound.specs.Invariant.{Shows, Gives}
-use Rattle.eif_run_sound.specs.UniverseLaws.{IsAnswered, all_closed, maybe_closed, UniverseLaws}
+use Rattle.eif_run_sound.specs.UniverseLaws.{all_closed, maybe_closed, UniverseLaws}
 use Rattle.eif_run_sound.proofs.States.{chain}
 use Rattle.eif_run_sound.proofs.Types.{suit, all_fit, answers_seen, closed_list}
 use Rattle.eif_run_sound.proofs.Calls.{Called, on_complete}
@@ -85,13 +85,16 @@ module _ (u : List ClassT) (laws : UniverseLaws u) (r : Running u) where
         → Safe (through c (Through b ys) v x vs s)
         (λ t a. Extends system s t × Gives u r (heap_of t) (option_map (put_in ys) g.result) a)
     through_ok v o there complete b ys zs over see x g found vs fit =
-        let Q = λ (t : State) (a : Option Seen). Extends system s t × Gives u r (heap_of t) (option_map (put_in ys) g.result) a in
-        let w = laws.features.answered o.made (object_made system laws.types (heap_of s) v o heap there) b zs over x g found in
+        let Q = λ (t : State) (a : Option Seen). Extends system s t
+        × Gives u r (heap_of t) (option_map (put_in ys) g.result) a in
+        let w = laws.features.answered o.made (object_made system laws.types
+        (heap_of s) v o heap there) b zs over x g found in
         subst (λ p. Safe (some_or no_feature p (λ g. feature_on c v b x vs
         >>= (λ a. give (seen_as (option_map (put_in ys) g.result) a))) s) Q) (sym found)
         (chain (feature_on c v b x vs) (λ a. give (seen_as (option_map (put_in ys) g.result) a)) s
         (Called u laws r (maybe_closed zs g.result) s) Q
-        (on_complete u laws r s heap v o there o.made refl b x (all_closed zs g.arguments) (maybe_closed zs g.result) w vs
+        (on_complete u laws r s heap v o there o.made refl b x (all_closed zs g.arguments)
+        (maybe_closed zs g.result) w vs
         fit complete)
         (λ t a h. (h.0, answers_seen u laws r (heap_of t) zs (put_in ys) see g.result a h.1)))
 
@@ -110,9 +113,11 @@ module _ (u : List ClassT) (laws : UniverseLaws u) (r : Running u) where
         let actuals : base_actuals S t ≡ ys = ap (λ o. option_map_or actuals_in o no_actuals) base.3 in
         let there = ap (λ o. signature u (line_by (line_of u) (option_and_then class_in o)) x) (sym base.3) ∙ found in
         let something = not_void system (heap_of s) (closed r t) w.value
-        (laws.open_types.attached class_of_text r.actuals (suit u laws r) t attached (ap is_some base.3)) shows.fits in
+        (laws.open_types.attached class_of_text r.actuals (suit u laws r) t attached
+        (ap is_some base.3)) shows.fits in
         let o = as_object system (heap_of s) (closed r t) w.value something shows.fits in
-        let over = laws.open_types.base class_of_text r.actuals (suit u laws r) o.object t o.conforms b base.1 ys base.3 in
+        let over = laws.open_types.base class_of_text r.actuals
+        (suit u laws r) o.object t o.conforms b base.1 ys base.3 in
         let through_class : seen_class system class_of_text w.type ≡ Through b ys =
         sym (same_class system class_of_text w.type)
         ∙ (ap (seen_class system class_of_text) shows.seen
@@ -124,7 +129,8 @@ module _ (u : List ClassT) (laws : UniverseLaws u) (r : Running u) where
         (all_fit u laws r (heap_of s) args (with_actuals (base_actuals S t) g).arguments vs called.fit fit) in
         let type : option_map (put_in ys) g.result ≡ result =
         ap (λ ys. option_map (put_in ys) g.result) (sym actuals) ∙ is in
-        subst (λ e. Safe ((if e then fail void_target else through c (seen_class system class_of_text w.type) w.value x vs) s) Q)
+        subst (λ e. Safe ((if e then fail void_target else through c
+        (seen_class system class_of_text w.type) w.value x vs) s) Q)
         (sym something)
         (subst (λ p. Safe (through c p w.value x vs s) Q) (sym through_class)
         (subst (λ y. Safe (through c (Through b ys) w.value x vs s)

@@ -1,7 +1,7 @@
 -- Object tests, and the names whose values an expression tells of.
-use Rattle.std.proofs.Common.{◌≡◌, ℕ, Bool, true, false, not, List, [], ◌∷◌, ◌++◌, map, Option, Some, None, refl, sym, ap, subst, ◌∙◌, inl, inr, ⊎_elim}
-use Rattle.std.specs.Prelude.{◌⊎◌, ◌||◌, if◌then◌else◌, is_some}
-use Rattle.std.specs.Option.{option_map, option_map_or}
+use Rattle.std.proofs.Common.{◌≡◌, ℕ, Bool, true, false, List, [], ◌∷◌, Option, Some, None, refl, sym, ap, subst, ◌∙◌, inl, inr, ⊎_elim}
+use Rattle.std.specs.Prelude.{◌||◌, if◌then◌else◌, is_some}
+use Rattle.std.specs.Option.{option_map_or}
 use Rattle.std.specs.Str.{bytes_eq}
 use Rattle.std.proofs.lemmas.Slice.Eq.{bytes_eq-Decides}
 use Rattle.eif_base.specs.declared.place.Place.{Place}
@@ -11,7 +11,7 @@ use Rattle.eif_tree.specs.Tree.{TypeT, Ex, test, ClassT}
 use Rattle.eif_classes.specs.Types.{TyT, attached_form}
 use Rattle.eif_body_rules.specs.Conditions.{name_in, if_testable, tested_name}
 use Rattle.eif_body_rules.specs.ExpressionTypes.{facts, all_attached, told_by_test}
-use Rattle.eif_body_rules.specs.Facts.{Fact, attached, usable, Usable, earlier, is_known_attached, usable_test}
+use Rattle.eif_body_rules.specs.Facts.{Fact, usable, Usable, usable_test}
 use Rattle.eif_body_rules.specs.OperatorRules.{boolean}
 use Rattle.eif_body_rules.specs.Settings.{Setting, is_testable, entity_of}
 use Rattle.eif_body_rules.specs.TestRules.{local_names, bound_local}
@@ -20,23 +20,23 @@ use Rattle.eif_flow_rules.specs.FieldSets.{FieldSet}
 use Rattle.eif_meaning.specs.Values as values
 use Rattle.eif_meaning.specs.Values.{Value, void, integer, character, reference, Object, Seen, State}
 use Rattle.eif_meaning.specs.System.{System, system_over}
-use Rattle.eif_meaning.specs.Objects.{set_at, type_of, object_of}
+use Rattle.eif_meaning.specs.Objects.{set_at, type_of}
 use Rattle.eif_meaning.specs.Frames.{Frame, written_type, entity}
 use Rattle.eif_meaning.specs.Calls.{is_void}
 use Rattle.eif_meaning.specs.KernelTypes.{boolean_type}
-use Rattle.eif_meaning.specs.ObjectTests.{is_of, holds, local_type, bind_local, run_test}
+use Rattle.eif_meaning.specs.ObjectTests.{holds, local_type, bind_local, run_test}
 use Rattle.eif_valid_bodies.specs.ValidNodes.{IsFree, ValidTest}
-use Rattle.eif_run_laws.specs.Holders.{IsObject, Fits, IsHeap}
+use Rattle.eif_run_laws.specs.Holders.{Fits}
 use Rattle.eif_run_laws.specs.Steps.{Safe, heap_of}
 use Rattle.eif_run_laws.proofs.Lists.{some_is}
 use Rattle.eif_run_laws.proofs.Growing.{grow_same}
 use Rattle.eif_run_laws.proofs.Fitting.{as_object, from_object, boolean_fits, fits_attached}
 use Rattle.eif_run_sound.specs.Bodies.{Running, frame_of, setting_of, written, closed}
-use Rattle.eif_run_sound.specs.ExpressionRuns.{IsEntity, Told}
+use Rattle.eif_run_sound.specs.ExpressionRuns.{IsEntity}
 use Rattle.eif_run_sound.specs.Invariant.{Shows, Gives, held_in, DenotesNothing, Held, Good, Later}
 use Rattle.eif_run_sound.specs.UniverseLaws.{UniverseLaws}
-use Rattle.eif_run_sound.proofs.States.{later_same, held_in_later, held_later, good_later}
-use Rattle.eif_run_sound.proofs.Known.{Apart, held_none, held_both, held_attached, true_or_false}
+use Rattle.eif_run_sound.proofs.States.{later_same, held_later, good_later}
+use Rattle.eif_run_sound.proofs.Known.{held_none, held_both, held_attached}
 use Rattle.eif_run_sound.proofs.Names.{closed_attached, written_is, no_entity_of}
 use Rattle.eif_run_sound.proofs.Entities.{entity_cases}
 
@@ -114,7 +114,8 @@ module _ (u : List ClassT) (laws : UniverseLaws u) (r : Running u) where
         subst (λ a. Fits system (heap_of s) (closed r a) v.value) (sym shows.seen) fits,
       )
   local_shown s t v (Some a) shows e =
-      let o = as_object system (heap_of s) (closed r t) v.value (holds_something (heap_of s) (Some a) v.value e) shows.fits in
+      let o = as_object system (heap_of s) (closed r t) v.value (holds_something (heap_of s)
+      (Some a) v.value e) shows.fits in
       let conforms : system.conforms (type_of o.object) (attached_form (closed r (written_type c a))) ≡ true =
       ap (λ p. option_map_or (λ o. system.conforms (type_of o) (attached_form (closed r (written_type c a)))) p false)
       (sym o.there) ∙ e in
@@ -129,7 +130,8 @@ module _ (u : List ClassT) (laws : UniverseLaws u) (r : Running u) where
         attached_form (written u r a),
         refl,
         record {
-          fits = subst (λ a. Fits system (heap_of s) (closed r (attached_form a)) v.value) (written_is u laws r a) fits;
+          fits = subst (λ a. Fits system (heap_of s) (closed r (attached_form a)) v.value)
+              (written_is u laws r a) fits;
           seen = ap (λ t. attached_form (attached_form t)) (written_is u laws r a);
         },
         fits,
@@ -139,7 +141,8 @@ module _ (u : List ClassT) (laws : UniverseLaws u) (r : Running u) where
 
   module _ (k : List Fact) (n set : List (List ℕ)) (f : FieldSet) (p : Place) (w : Option TypeT) (e : Ex) (t : TyT)
       (s : State) (g : Good u r k set f s) (v : Seen) (shows : Shows u r (heap_of s) t v)
-      (told : (x : List ℕ) → name_in e ≡ Some x → IsEntity (entity r.declaration.tree x) → held_in u r s x ≡ Some v.value) where
+      (told : (x : List ℕ) → name_in e ≡ Some x → IsEntity (entity r.declaration.tree x)
+      → held_in u r s x ≡ Some v.value) where
     abbrev W : Seen
     W = record { value = v.value; type = local_type c w v.type }
 
@@ -182,7 +185,8 @@ module _ (u : List ClassT) (laws : UniverseLaws u) (r : Running u) where
       later = later_same (local_names y) s;
       good = g;
       gives = truth_shown false;
-      held = λ z x i q. subst (λ x. Held u r (facts S k n x (test p w y e)) s) (sym (told_value false z x i q)) (held_none u r s);
+      held = λ z x i q. subst (λ x. Held u r (facts S k n x (test p w y e)) s) (sym (told_value false z x i q))
+          (held_none u r s);
     }
 
     -- one that holds, without a local
@@ -195,7 +199,8 @@ module _ (u : List ClassT) (laws : UniverseLaws u) (r : Running u) where
       good = g;
       gives = truth_shown true;
       held = λ z x i q. subst (λ x. Held u r (facts S k n x (test p w None e)) s) (sym (told_value true z x i q))
-          (subst (λ l. Held u r l s) (sym is) (held_both u r _ [] s (name_attached h) (held_none u r s) (λ x. inr refl)));
+          (subst (λ l. Held u r l s) (sym is) (held_both u r _ [] s (name_attached h) (held_none u r s)
+          (λ x. inr refl)));
     }
 
     -- one that holds binds its local
@@ -232,7 +237,10 @@ module _ (u : List ClassT) (laws : UniverseLaws u) (r : Running u) where
           by true q e = (
             subst (λ z. Fits system (heap_of s) (closed r z.type) z.value) (some_is e) shown.3,
             subst (DenotesNothing u r) (sym (same_name x y.name q))
-                (record { entity_none = no_entity_of u laws r y.name free.no_entity; feature_none = free.no_feature }),
+                (record {
+                  entity_none = no_entity_of u laws r y.name free.no_entity;
+                  feature_none = free.no_feature;
+                }),
           )
           by false q e = g.tests x z e
 
@@ -242,7 +250,8 @@ module _ (u : List ClassT) (laws : UniverseLaws u) (r : Running u) where
         where
           by : (b : Bool) → bytes_eq x y.name ≡ b → (b || false) ≡ false
           by true q =
-              let none : None ≡ Some z = sym free.no_test ∙ (ap (usable_test k) (sym (same_name x y.name q)) ∙ e) in cc
+              let none : None ≡ Some z = sym free.no_test ∙ (ap (usable_test k) (sym (same_name x y.name q)) ∙ e) in
+              cc
           by false q = refl
 
       bound_good : Good u r k set f after_binding
@@ -251,7 +260,11 @@ module _ (u : List ClassT) (laws : UniverseLaws u) (r : Running u) where
           (held_later u r k (y.name ∷ []) s after_binding g.known bound_later not_usable)
 
       -- the local may be used
-      local_held : Held u r (usable y.name (record { place = p; type = rules.local_type S w (Some t) }) ∷ []) after_binding
+      local_held : Held u r (usable y.name (record {
+        place = p;
+        type = rules.local_type S w
+            (Some t);
+      }) ∷ []) after_binding
       local_held = record {
         attached = λ x e a q. cc;
         usable = λ x z a e q. by x z a (bytes_eq y.name x) refl e q;
@@ -271,14 +284,16 @@ module _ (u : List ClassT) (laws : UniverseLaws u) (r : Running u) where
           by x z a false i e q = cc
 
       holds_bound :
-          (facts S k n true (test p w (Some y) e) ≡ told_by_test S e (bound_local p (Some y) (rules.local_type S w (Some t))))
+          (facts S k n true (test p w (Some y) e) ≡ told_by_test S e (bound_local p (Some y) (rules.local_type S w
+          (Some t))))
           → Tested (Some y) after_binding (given true)
       unfolding bound_local
       holds_bound is = record {
         later = bound_later;
         good = bound_good;
         gives = truth_shown true;
-        held = λ z x i q. subst (λ x. Held u r (facts S k n x (test p w (Some y) e)) after_binding) (sym (told_value true z x i q))
+        held = λ z x i q. subst (λ x. Held u r (facts S k n x (test p w (Some y) e)) after_binding) (sym
+            (told_value true z x i q))
             (subst (λ l. Held u r l after_binding) (sym is)
             (held_both u r (all_attached (tested_name (is_testable S) e)) _ after_binding
             (held_later u r _ (y.name ∷ []) s after_binding (name_attached h) bound_later
@@ -292,12 +307,14 @@ module _ (u : List ClassT) (laws : UniverseLaws u) (r : Running u) where
       where
         by : (b : Bool) → holds c (heap_of s) w v.value ≡ b → Safe (bind_local None W b s) (Tested None)
         by true h =
-            holds_bare h (valid_type.told ∙ ap (λ t. told_by_test S e (bound_local p None (rules.local_type S w (Some t)))) type)
+            holds_bare h (valid_type.told ∙ ap (λ t. told_by_test S e (bound_local p None (rules.local_type S w
+            (Some t)))) type)
         by false h = fails None
     test_ok (Some y) a valid_type type = by (holds c (heap_of s) w v.value) refl
       where
         by : (b : Bool) → holds c (heap_of s) w v.value ≡ b → Safe (bind_local (Some y) W b s) (Tested (Some y))
         by true h =
             holds_bound y valid_type.free.0 h
-            (valid_type.told ∙ ap (λ t. told_by_test S e (bound_local p (Some y) (rules.local_type S w (Some t)))) type)
+            (valid_type.told ∙ ap (λ t. told_by_test S e (bound_local p (Some y) (rules.local_type S w
+            (Some t)))) type)
         by false h = fails (Some y)

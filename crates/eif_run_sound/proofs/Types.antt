@@ -1,16 +1,14 @@
 -- What fits in a body, with its types closed.
-use Rattle.std.proofs.Common.{◌≡◌, ℕ, Bool, true, false, List, [], ◌∷◌, ◌++◌, map, flat_map, length, Option, Some, None, refl, sym, ap, ap₂, subst, ◌∙◌, arith}
+use Rattle.std.proofs.Common.{◌≡◌, ℕ, Bool, true, false, List, [], ◌∷◌, map, length, Option, Some, None, refl, sym, ap₂, subst, arith}
 use Rattle.std.specs.Prelude.{is_some}
 use Rattle.std.specs.Option.{option_map, option_map_or}
-use Rattle.eif_tree.specs.Tree.{ClassT, GroupT}
+use Rattle.eif_tree.specs.Tree.{ClassT}
 use Rattle.eif_classes.specs.Ancestry.{ancestor}
-use Rattle.eif_classes.specs.Conformance.{class_conforms, conforms, closed_conforms}
+use Rattle.eif_classes.specs.Conformance.{class_conforms, conforms}
 use Rattle.eif_classes.specs.Constraints.{constraint, base_type, is_attached}
-use Rattle.eif_classes.specs.Resolution.{resolved}
-use Rattle.eif_classes.specs.Signatures.{Signature, with_actuals}
-use Rattle.eif_classes.specs.Types.{TyT, class_type, formal_type, none_type, Actuals, marked, put_in, put_in_all}
+use Rattle.eif_classes.specs.Types.{TyT, class_type, formal_type, none_type, Actuals, marked, put_in}
 use Rattle.eif_body_rules.specs.CallRules.{Argument}
-use Rattle.eif_meaning.specs.Values.{Value, Object, Seen}
+use Rattle.eif_meaning.specs.Values.{Value, Object}
 use Rattle.eif_meaning.specs.System.{System, system_over}
 use Rattle.eif_meaning.specs.Calls.{seen_as}
 use Rattle.eif_valid_bodies.specs.ValidCalls.{Fit}
@@ -19,7 +17,7 @@ use Rattle.eif_run_laws.specs.Holders.{Fits, AllFit, Answers}
 use Rattle.eif_run_laws.proofs.Fitting.{fits_conforming}
 use Rattle.eif_run_sound.specs.Bodies.{Running, setting_of, closed}
 use Rattle.eif_run_sound.specs.ExpressionRuns.{types_of}
-use Rattle.eif_run_sound.specs.Invariant.{Shows, Gives}
+use Rattle.eif_run_sound.specs.Invariant.{Gives}
 use Rattle.eif_run_sound.proofs.Flows.{and_left}
 use Rattle.eif_run_sound.specs.UniverseLaws.{ResultFits, all_closed, maybe_closed, UniverseLaws}
 
@@ -50,7 +48,8 @@ has_base u k (formal_type i m) none_type c h = cc
 has_base u k none_type b c h = cc
 
 -- a result of a type that conforms to another
-pub answers_fit : (u : List ClassT) → UniverseLaws u → (h : List Object) (a b : Option TyT) (o : Option Value) → ResultFits u a b
+pub answers_fit : (u : List ClassT) → UniverseLaws u → (h : List Object) (a b : Option TyT) (o : Option Value)
+    → ResultFits u a b
     → Answers (system_over u) h a o → Answers (system_over u) h b o
 answers_fit u laws h None None o c f = f
 answers_fit u laws h None (Some b) o c f = absurd c
@@ -85,7 +84,8 @@ module _ (u : List ClassT) (laws : UniverseLaws u) (r : Running u) where
   -- a result under the type as which the text sees it, which closes to that of the feature
   pub answers_seen : (h : List Object) (zs : Actuals) (see : TyT → TyT)
       → ((t : TyT) → closed r (see t) ≡ put_in zs t) → (t : Option TyT) (a : Option Value)
-      → Answers (system_over u) h (maybe_closed zs t) a → Gives u r h (option_map see t) (seen_as (option_map see t) a)
+      → Answers (system_over u) h (maybe_closed zs t) a → Gives u r h (option_map see t) (seen_as
+      (option_map see t) a)
   answers_seen h zs see e None None f = tt
   answers_seen h zs see e None (Some v) f = absurd f
   answers_seen h zs see e (Some t) None f = absurd f

@@ -1,7 +1,7 @@
 -- A body that runs, and what a runner of bodies promises.
 use Rattle.std.specs.Prelude.{◌≡◌, ℕ, false, List, Option, Some, None, slice_get}
 use Rattle.eif_tree.specs.Members.{result_name}
-use Rattle.eif_tree.specs.Tree.{TypeT, DeclT, ClassT}
+use Rattle.eif_tree.specs.Tree.{TypeT, ClassT}
 use Rattle.eif_classes.specs.Entries.{Declaration}
 use Rattle.eif_classes.specs.Features.{declaration_of, is_attribute}
 use Rattle.eif_classes.specs.Resolution.{resolved}
@@ -15,8 +15,8 @@ use Rattle.eif_flow_rules.specs.FieldSets.{FieldSet}
 use Rattle.eif_flow_rules.specs.FlowSteps.{Meanings}
 use Rattle.eif_flow_rules.specs.FlowTrees.{Flow}
 use Rattle.eif_flow_rules.specs.VersionFlows.{meanings_in, version_flow}
-use Rattle.eif_meaning.specs.Values.{Value, ClassType, Object, Store, Outcome}
-use Rattle.eif_meaning.specs.System.{System, system_over}
+use Rattle.eif_meaning.specs.Values.{Value, ClassType, Object, Store}
+use Rattle.eif_meaning.specs.System.{system_over}
 use Rattle.eif_meaning.specs.Objects.{object_of}
 use Rattle.eif_meaning.specs.Frames.{Body, Runner, Frame, entity}
 use Rattle.eif_meaning.specs.Run.{frame}
@@ -47,7 +47,8 @@ flow_on u d y = version_flow u (line_of u d) y
 -- ---- calls of bodies
 
 -- a body may begin on a value: the heap is sound, its arguments fit, and what it needs is set
-pub record Enters (u : List ClassT) (h : List Object) (v : Value) (y : Declaration) (xs : Actuals) (vs : List Value)
+pub record Enters (u : List ClassT) (h : List Object) (v : Value) (y : Declaration) (xs : Actuals)
+    (vs : List Value)
     (f : FieldSet) : Type 0 where
   pub routine : IsRoutine u y
   pub heap : IsHeap (system_over u) h
@@ -59,7 +60,8 @@ pub record Enters (u : List ClassT) (h : List Object) (v : Value) (y : Declarati
   pub fit : AllFit (system_over u) h (signature_on u routine.text y xs).arguments vs
 
 -- what it leaves: a sound heap in which objects stayed, its answer, and what it surely sets
-pub record Leaves (u : List ClassT) (h : List Object) (v : Value) (y : Declaration) (xs : Actuals) (f : FieldSet)
+pub record Leaves (u : List ClassT) (h : List Object) (v : Value) (y : Declaration) (xs : Actuals)
+    (f : FieldSet)
     (text : ClassT) (t : Store) (a : Option Value) : Type 0 where
   pub heap : IsHeap (system_over u) t.heap
   pub grown : Grow h t.heap
@@ -98,7 +100,8 @@ pub record Running (u : List ClassT) : Type 0 where
   pub over : Over (system_over u) type declaration.class_number actuals
 
 abbrev pub frame_of : (u : List ClassT) → Running u → Frame
-frame_of u r = frame (system_over u) r.turns r.again r.current (body_of r.declaration r.actuals) r.given
+frame_of u r = frame (system_over u) r.turns r.again r.current
+    (body_of r.declaration r.actuals) r.given
 
 -- where the text stands
 abbrev pub setting_of : (u : List ClassT) → Running u → Setting

@@ -33,9 +33,11 @@ IsEntity None = ⊥
 IsEntity (Some e) = Unit {0}
 
 -- what the value tells: the facts of the expression; what a name holds; that `Void` is Void
-pub record Told (u : List ClassT) (r : Running u) (k : List Fact) (n : List (List ℕ)) (e : Ex) (o : Option Seen) (s : State)
+pub record Told (u : List ClassT) (r : Running u) (k : List Fact) (n : List (List ℕ)) (e : Ex)
+    (o : Option Seen) (s : State)
     : Type 0 where
-  pub held : (w : Seen) (b : Bool) → o ≡ Some w → w.value ≡ boolean b → Held u r (facts (setting_of u r) k n b e) s
+  pub held : (w : Seen) (b : Bool) → o ≡ Some w → w.value ≡ boolean b
+      → Held u r (facts (setting_of u r) k n b e) s
   pub read : (w : Seen) (x : List ℕ) → o ≡ Some w → conditions.name_in e ≡ Some x
       → IsEntity (entity r.declaration.tree x) → held_in u r s x ≡ Some w.value
   pub void : (w : Seen) → o ≡ Some w → conditions.is_void e ≡ true → w.value ≡ void
@@ -57,11 +59,13 @@ behind_on u r t f = behind u r.type.class_number t f
 -- the names that hide features are no features of the class
 abbrev pub HidesNone : (u : List ClassT) → Running u → List (List ℕ) → Type 0
 HidesNone u r hidden =
-    (x : List ℕ) → is_among hidden x ≡ true → signature u (line_of u r.declaration.class_number) x ≡ None
+    (x : List ℕ) → is_among hidden x ≡ true → signature u
+    (line_of u r.declaration.class_number) x ≡ None
 
 -- at its end nothing has changed but test locals of the expression, the invariant holds, with what the expression sets,
 -- and it gives a value of its type
-pub record Evaluated (u : List ClassT) (r : Running u) (k : List Fact) (n set : List (List ℕ)) (f : FieldSet) (e : Ex)
+pub record Evaluated (u : List ClassT) (r : Running u) (k : List Fact) (n set : List (List ℕ))
+    (f : FieldSet) (e : Ex)
     (t : TyT) (s : State) (v : State) (o : Option Seen) : Type 0 where
   pub later : Later (test_names e) s v
   pub good : Good u r k set f v
@@ -72,7 +76,8 @@ pub record Evaluated (u : List ClassT) (r : Running u) (k : List Fact) (n set : 
 abbrev pub types_of : List Argument → List TyT
 types_of args = map (λ a. a.type) args
 
-pub record AllEvaluated (u : List ClassT) (r : Running u) (k : List Fact) (set : List (List ℕ)) (f : FieldSet) (es : Exs)
+pub record AllEvaluated (u : List ClassT) (r : Running u) (k : List Fact) (set : List (List ℕ))
+    (f : FieldSet) (es : Exs)
     (given : List Argument) (s : State) (v : State) (vs : List Value) : Type 0 where
   pub later : Later (test_names_in es) s v
   pub good : Good u r k set f v
@@ -93,9 +98,11 @@ pub record ExpressionsKeep (u : List ClassT) (r : Running u) : Type 0 where
       → Safe (evaluate (frame_of u r) e s)
       (Evaluated u r k n set (behind_on u r (flow_of u r hidden e) f) e t s)
   pub arguments :
-      (k : List Fact) (n set hidden : List (List ℕ)) (f : FieldSet) (es : Exs) (given : List Argument)
+      (k : List Fact) (n set hidden : List (List ℕ)) (f : FieldSet) (es : Exs)
+      (given : List Argument)
       → Valid (judge_all (setting_of u r) k n es) given → SetReadsIn (setting_of u r) k n set es
-      → AreWritten (IsTypeOfText u r) es → HidesNone u r hidden → MetOn u r (flow_of_all u r hidden es) f
+      → AreWritten (IsTypeOfText u r) es → HidesNone u r hidden
+      → MetOn u r (flow_of_all u r hidden es) f
       → (s : State) → Good u r k set f s
       → Safe (evaluate_all (frame_of u r) es s)
       (AllEvaluated u r k set (behind_on u r (flow_of_all u r hidden es) f) es given s)

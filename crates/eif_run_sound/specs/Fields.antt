@@ -1,9 +1,8 @@
 -- Which fields of an object are set, and what a body does to them.
 use Rattle.std.specs.Prelude.{◌≡◌, ℕ, true, ◌||◌, List, Some}
 use Rattle.eif_base.specs.Numbering.{is_among}
-use Rattle.eif_classes.specs.Entries.{Declaration}
 use Rattle.eif_classes.specs.Types.{TyT, is_self_initialising}
-use Rattle.eif_system.specs.Lineage.{Line, line_of}
+use Rattle.eif_system.specs.Lineage.{line_of}
 use Rattle.eif_tree.specs.Tree.{ClassT}
 use Rattle.eif_flow_rules.specs.FieldSets.{FieldSet}
 use Rattle.eif_flow_rules.specs.FlowTrees.{Flow}
@@ -11,7 +10,7 @@ use Rattle.eif_flow_rules.specs.MetNeeds.{IsMet}
 use Rattle.eif_flow_rules.specs.NeedsAndSets.{set_after}
 use Rattle.eif_flow_rules.specs.Summaries.{due_fields, summary}
 use Rattle.eif_meaning.specs.Values.{Object}
-use Rattle.eif_meaning.specs.System.{System, system_over}
+use Rattle.eif_meaning.specs.System.{system_over}
 use Rattle.eif_meaning.specs.Objects.{field_type}
 use Rattle.eif_run_laws.specs.Holders.{IsSet}
 

@@ -17,7 +17,8 @@ use Rattle.eif_run_sound.specs.Invariant.{Good}
 use Rattle.eif_run_sound.specs.WrittenTexts.{CompoundIsWritten}
 
 -- objects stayed, and the invariant holds with this known and set
-pub record Done (u : List ClassT) (r : Running u) (k : List Fact) (set : List (List ℕ)) (f : FieldSet) (s v : State)
+pub record Done (u : List ClassT) (r : Running u) (k : List Fact) (set : List (List ℕ))
+    (f : FieldSet) (s v : State)
     (o : Unit {0}) : Type 0 where
   pub grown : Grow (heap_of s) (heap_of v)
   pub good : Good u r k set f v
@@ -26,7 +27,8 @@ pub record Done (u : List ClassT) (r : Running u) (k : List Fact) (set : List (L
 abbrev pub CompoundsKeep : (u : List ClassT) → Running u → Type 0
 CompoundsKeep u r =
     (k : List Fact) (set hidden : List (List ℕ)) (f : FieldSet) (is : Inss)
-    → ValidCompound (setting_of u r) k set is → CompoundIsWritten (IsTypeOfText u r) is → HidesNone u r hidden
+    → ValidCompound (setting_of u r) k set is → CompoundIsWritten (IsTypeOfText u r) is
+    → HidesNone u r hidden
     → MetOn u r (compound_flow (meanings_of u r) hidden is) f
     → (s : State) → Good u r k set f s
     → Safe (execute_all (frame_of u r) is s)

@@ -5,7 +5,6 @@ use Rattle.eif_classes.specs.Types.{no_actuals}
 use Rattle.eif_system.specs.Universe.{class_number}
 use Rattle.eif_meaning.specs.Values.{ClassType}
 use Rattle.eif_meaning.specs.System.{system_over}
-use Rattle.eif_meaning.specs.Frames.{Runner}
 use Rattle.eif_meaning.specs.Run.{level, run, IsWrong}
 use Rattle.eif_run_laws.specs.ObjectTypes.{IsMade}
 use Rattle.eif_run_sound.specs.Bodies.{RunsBodies}
@@ -25,10 +24,12 @@ pub record IsRoot (u : List ClassT) (class_name procedure : List ℕ) : Type 0 w
 
 -- bodies with any bounds do not go wrong
 abbrev pub BodiesRun : Type 0
-BodiesRun = (u : List ClassT) → UniverseLaws u → (turns n : ℕ) → RunsBodies u (level (system_over u) turns n)
+BodiesRun = (u : List ClassT) → UniverseLaws u → (turns n : ℕ)
+    → RunsBodies u (level (system_over u) turns n)
 
 -- nor do runs
 abbrev pub RunsAreSound : Type 0
 RunsAreSound =
-    (u : List ClassT) → UniverseLaws u → (class_name procedure : List ℕ) → IsRoot u class_name procedure
+    (u : List ClassT) → UniverseLaws u → (class_name procedure : List ℕ)
+    → IsRoot u class_name procedure
     → (n : ℕ) → IsWrong (run n (system_over u) class_name procedure) → ⊥

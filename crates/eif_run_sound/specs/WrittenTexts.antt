@@ -1,5 +1,5 @@
 -- Texts of expressions and instructions as the grammar spells them, whose written types have P.
-use Rattle.std.specs.Prelude.{◌≡◌, ℕ, false, List, Option, Some, None}
+use Rattle.std.specs.Prelude.{◌≡◌, false, Option, Some, None}
 use Rattle.std.specs.Str.{bytes_eq}
 use Rattle.eif_tree.specs.declared.tree.Op.{Op}
 use Rattle.eif_tree.specs.declared.tree.Op.TheVariants as op
@@ -60,7 +60,8 @@ abbrev mutual
 
   pub BranchesAreWritten : (TypeT → Type 0) → Branches → Type 0
   BranchesAreWritten P no_branches = Unit {0}
-  BranchesAreWritten P (and_branch e is bs) = IsWritten P e × CompoundIsWritten P is × BranchesAreWritten P bs
+  BranchesAreWritten P (and_branch e is bs) = IsWritten P e × CompoundIsWritten P is
+      × BranchesAreWritten P bs
 
   pub OtherwiseIsWritten : (TypeT → Type 0) → Otherwise → Type 0
   OtherwiseIsWritten P no_else = Unit {0}
