@@ -1,0 +1,6 @@
+pub mod Entries
+pub mod Seen
+pub mod Descents
+pub mod Held
+pub mod RowsAt
+pub mod Bindings
