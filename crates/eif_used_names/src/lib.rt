@@ -4,3 +4,6 @@
 mod used;
 
 pub use used::used_names;
+
+#[cfg(test)]
+mod tests;
