@@ -13,3 +13,6 @@ mod standing;
 pub use declarations::push_declaration_faults;
 pub use names::push_name_faults;
 pub use selection::push_selection_faults;
+
+#[cfg(test)]
+mod tests;
