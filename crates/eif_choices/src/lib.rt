@@ -12,6 +12,3 @@ mod selected;
 
 pub use choices::{Choices, choices_of};
 pub use selected::selected_set;
-
-#[cfg(test)]
-mod tests;

@@ -3,7 +3,7 @@ use eif_adapt::AdaptedEntry;
 use eif_base::{ClassId, Code, FaultList, FeatId, Memory, Name, Place};
 use eif_choices::choices_of;
 use eif_heirs::{Clause, FeatureDraft, Heir};
-use eif_rows::{DeclarationId, Row, Version};
+use eif_rows::{DeclarationId, Row, Version, ordered_names};
 use eif_tree::builders::written_type;
 use eif_tree::class_builders::{
     attribute, written_class, written_clients, written_decl, written_features, written_parent,
@@ -76,8 +76,12 @@ fn clause_tree(alloc: Global, selects: &[u8]) -> Result<ParentClause, Memory> {
 
 /// What is kept of the class with the feature `f`.
 fn row(alloc: Global) -> Result<Row, Memory> {
+    let name = Name::from_bytes(alloc, b"f")?;
+    let mut listed = Vec::new(alloc);
+    listed.push(&name)?;
+    let names = ordered_names(alloc, listed)?;
     Ok(Row {
-        names: vec![in alloc; Name::from_bytes(alloc, b"f")?]?,
+        names,
         features: Vec::new(alloc),
         fields: Vec::new(alloc),
         ancestors: Vec::new(alloc),
@@ -146,22 +150,30 @@ fn clauses_over<'u>(
     Ok(clauses)
 }
 
+/// The breaches of selection of the class, whose clauses are of the class of the one row.
+fn faults_over<'u>(
+    alloc: Global,
+    class: &'u ClassTree,
+    trees: &'u [ParentClause],
+    rows: &'u [Option<Row>],
+    cases: &[ClauseCase],
+) -> Result<FaultList, Memory> {
+    let mut out = FaultList::new(alloc);
+    if let Some(Some(row)) = rows.first() {
+        let clauses = clauses_over(alloc, trees, row, cases)?;
+        let heir = Heir::of(alloc, ClassId(1), class, clauses)?;
+        let choices = choices_of(alloc, rows, &heir)?;
+        push_selection_faults(alloc, &heir, &choices, &mut out)?;
+    }
+    Ok(out)
+}
+
 /// The breaches of selection of the class with these clauses.
 fn selection_faults(alloc: Global, cases: &[ClauseCase]) -> Result<FaultList, Memory> {
     let class = class_tree(alloc, false, b"")?;
     let trees = clause_trees(alloc, cases)?;
-    let parent = row(alloc)?;
-    let heir = Heir::of(
-        alloc,
-        ClassId(1),
-        &class,
-        clauses_over(alloc, &trees, &parent, cases)?,
-    )?;
     let rows = vec![in alloc; Some(row(alloc)?)]?;
-    let choices = choices_of(alloc, &rows, &heir)?;
-    let mut out = FaultList::new(alloc);
-    push_selection_faults(alloc, &heir, &choices, &mut out)?;
-    Ok(out)
+    faults_over(alloc, &class, &trees, &rows, cases)
 }
 
 fn are_breaches(found: &FaultList, wanted: &[Breach]) -> bool {
