@@ -10,11 +10,11 @@ ghost use Rattle.eif_system.specs.Universe.{class_number};
 ghost use Rattle.eif_tree.specs.View.{class_view, kind_view, type_view};
 ghost use Rattle.eif_universe.specs.Universes.{classes_of};
 
-use crate::forms::{LentFault, push_where};
 use eif_base::{ClassId, Code, FaultList, Memory, Name};
 use eif_heirs::DeclaredName;
 use eif_tree::{ClassTree, FeatureDecl, FeatureKind, Literal, Mark, TypeTree};
 use eif_universe::Universe;
+use eif_written::{LentFault, push_where};
 use std::alloc::Global;
 
 const INTEGER: ClassId = ClassId(1);

@@ -16,12 +16,12 @@ ghost use Rattle.eif_tree.specs.View.{class_view, kind_view};
 ghost use Rattle.eif_universe.specs.Universes.{classes_of};
 
 use crate::constants::push_wrong_constants;
-use crate::forms::{LentFault, push_fault};
 use crate::standing::{any_kept, any_lasts, sources_of};
 use eif_base::{Code, FaultList, Memory};
 use eif_heirs::{DeclaredName, Heir, NameSources};
 use eif_tree::{ClassTree, FeatureDecl, FeatureKind, NameAt};
 use eif_universe::Universe;
+use eif_written::{LentFault, push_fault};
 use std::alloc::Global;
 
 /// Adds the faults of the declared names.

@@ -4,7 +4,6 @@
 mod candidates;
 mod constants;
 mod declarations;
-mod forms;
 mod name_counts;
 mod names;
 mod selection;

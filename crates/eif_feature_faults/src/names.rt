@@ -16,13 +16,13 @@ ghost use Rattle.eif_system.specs.Lineage.{line_of};
 ghost use Rattle.eif_tree.specs.Tree.{ClassT};
 ghost use Rattle.eif_tree.specs.View.{class_view};
 
-use crate::forms::{LentFault, push_fault, push_where};
 use crate::name_counts::has_many_names;
 use eif_base::limits::MOST_NAMES;
 use eif_base::{ClassId, Code, FaultList, Memory, Name};
 use eif_heirs::{FeatureDraft, Heir};
 use eif_rows::{Row, Version};
 use eif_tree::ClassTree;
+use eif_written::{LentFault, push_fault, push_where};
 use std::alloc::Global;
 
 /// Adds the faults of the names of the class, which has these proper ancestors.

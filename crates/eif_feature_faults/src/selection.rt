@@ -20,12 +20,12 @@ ghost use Rattle.eif_tree.specs.declared.tree.NameAt.{NameAt};
 ghost use Rattle.eif_tree.specs.View.{class_view};
 
 use crate::candidates::{are_one, are_several, names_among, names_at};
-use crate::forms::{LentFault, push_fault, push_where};
 use eif_base::{Code, FaultList, FeatId, Memory, Name, NameSet};
 use eif_choices::{Choices, selected_set};
 use eif_heirs::{Clause, Heir, final_names};
 use eif_rows::ordered_names;
 use eif_tree::{ClassTree, NameAt};
+use eif_written::{LentFault, push_fault, push_where};
 use std::alloc::Global;
 
 // Adds the names of the candidates to the set, where there are several.

@@ -7,16 +7,15 @@ ghost use Rattle.eif_rules.specs.UniverseRules as rules;
 ghost use Rattle.eif_system.specs.WrittenTypes.{nested, present};
 ghost use Rattle.eif_tree.specs.View.{class_view, formal_view, parent_view, type_view};
 ghost use Rattle.eif_universe.specs.ClassesView.{classes_view};
-ghost use Rattle.eif_universe.specs.LentTypes.{lent_type};
+ghost use Rattle.eif_written.specs.LentTypes.{lent_type};
 
 use crate::classes::{Classes, has_formal, is_formal};
 use crate::kernel::KERNEL_COUNT;
-use crate::lent_fault::{LentFault, push_where};
-use crate::nested::nested_types;
 use crate::type_rules::push_type_faults;
 use eif_base::limits::{MOST_FORMALS, MOST_PARENTS};
 use eif_base::{Code, FaultList, Memory};
 use eif_tree::{ClassTree, FormalTree, ParentClause, TypeTree};
+use eif_written::{LentFault, nested_types, push_where};
 use std::alloc::Global;
 
 /// VCFG.1: a formal has the name of a class.

@@ -13,11 +13,11 @@ ghost use Rattle.eif_universe.specs.Universes.{InheritanceBroken};
 
 use crate::classes::Classes;
 use crate::graph::parent_number;
-use crate::lent_fault::{LentFault, push_where};
 use eif_ancestry::Ancestors;
 use eif_base::limits::MOST_ANCESTORS;
 use eif_base::{Code, FaultList, Memory};
 use eif_tree::{ClassTree, ParentClause};
+use eif_written::{LentFault, push_where};
 use std::alloc::Global;
 
 /// Whether the class `d` is the class `a` or descends from it.

@@ -20,11 +20,11 @@ use crate::classes::Classes;
 use crate::graph::inheritance_graph;
 use crate::inheritance::push_inheritance_faults;
 use crate::kernel::KERNEL_COUNT;
-use crate::lent_fault::{LentFault, push_where};
 use crate::root_rules::push_root_faults;
 use eif_ancestry::{Ancestors, ancestors_of_all, inheritance_order};
 use eif_base::{ClassId, Code, FaultList, Memory, Root};
 use eif_tree::ClassTree;
+use eif_written::{LentFault, push_where};
 use std::alloc::Global;
 
 /// What is found out of classes.

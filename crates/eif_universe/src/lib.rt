@@ -9,13 +9,9 @@ mod graph;
 mod inheritance;
 mod judge;
 mod kernel;
-mod lent_fault;
-mod nested;
-mod outermost;
 mod root_rules;
 mod type_rules;
 mod universe;
-mod written;
 
 pub use kernel::kernel_trees;
 pub use universe::{Universe, UniverseError, universe_crosses};

@@ -9,10 +9,9 @@ ghost use Rattle.eif_universe.specs.ClassesView.{classes_view};
 
 use crate::classes::Classes;
 use crate::kernel::KERNEL_COUNT;
-use crate::lent_fault::{LentFault, push_where};
-use crate::written::Owner;
 use eif_base::{Code, FaultList, Memory, NO_FILE, Place, Root};
 use eif_tree::ClassTree;
+use eif_written::{LentFault, Owner, push_where};
 use std::alloc::Global;
 
 // The place of what stands in no file.

@@ -8,16 +8,14 @@ ghost use Rattle.eif_system.specs.Kernel.{basic_names};
 ghost use Rattle.eif_system.specs.WrittenTypes as the;
 ghost use Rattle.eif_tree.specs.View.{class_view, type_view, types_from};
 ghost use Rattle.eif_universe.specs.ClassesView.{classes_view};
-ghost use Rattle.eif_universe.specs.LentFaults.{fault_of_lent};
-ghost use Rattle.eif_universe.specs.LentTypes.{lent_type, owner_name, written_view};
+ghost use Rattle.eif_written.specs.LentFaults.{fault_of_lent};
+ghost use Rattle.eif_written.specs.LentTypes.{lent_type, owner_name, written_view};
 
 use crate::classes::{Classes, is_formal};
-use crate::lent_fault::{LentFault, push_where};
-use crate::nested::nested_types;
-use crate::written::{Owner, WrittenType, written_types};
 use eif_base::limits::MOST_TYPE_NAMES;
 use eif_base::{Code, FaultList, Memory, Name, Place};
 use eif_tree::{ClassTree, Mark, TypeTree};
+use eif_written::{LentFault, Owner, WrittenType, nested_types, push_where, written_types};
 use std::alloc::Global;
 
 /// A fault about the name of a written type.

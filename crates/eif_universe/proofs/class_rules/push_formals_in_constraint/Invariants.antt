@@ -2,7 +2,7 @@ use Rattle.std.proofs.Common.{◌≡◌, ◌++◌, map, drop}
 use Rattle.std.specs.Prelude.{flat_map}
 use Rattle.eif_tree.specs.View.{class_view}
 use Rattle.eif_rules.specs.UniverseRules.{formal_in_constraint}
-use Rattle.eif_universe.specs.LentTypes.{lent_type}
+use Rattle.eif_written.specs.LentTypes.{lent_type}
 use Rattle.eif_universe.proofs.class_rules.push_formals_in_constraint.Given as goal
 
 abbrev pub invariant-types : goal.invariant-types

@@ -3,7 +3,7 @@ use Rattle.std.specs.Prelude.{flat_map}
 use Rattle.eif_tree.specs.View.{class_view}
 use Rattle.eif_rules.specs.UniverseRules.{nested_type_faults}
 use Rattle.eif_universe.specs.ClassesView.{classes_view}
-use Rattle.eif_universe.specs.LentTypes.{lent_type, owner_name}
+use Rattle.eif_written.specs.LentTypes.{lent_type, owner_name}
 use Rattle.eif_universe.proofs.type_rules.push_faults_of_types.Given as goal
 
 abbrev pub invariant-types : goal.invariant-types

@@ -1,0 +1,2 @@
+pub mod LentFaults
+pub mod LentTypes
