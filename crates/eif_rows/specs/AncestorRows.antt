@@ -14,7 +14,7 @@ use Rattle.eif_tree.specs.Tree.{ClassT}
 abbrev pub bound_at : AncestorRow → ℕ → Option FeatId
 bound_at r i = slice_index_or r.bound.items i None
 
--- all names of that feature: those that are kept where there are several, and else the one
+-- all names of that feature: those that are kept, and where none are the one that is bound
 abbrev pub reached_at : AncestorRow → ℕ → List FeatId
 reached_at r i =
     option_map_or (λ names. names.items) (get_by (λ k. i == k) r.several) (option_to_list (bound_at r i))

@@ -6,7 +6,7 @@ use eif_base::{ClassId, FeatId, Memory};
 use indexmap::IndexMap;
 
 /// What becomes of the features of an ancestor in a class: for each of them the name that dynamic
-/// binding uses, and, of those that have several names, all of these in rising order.
+/// binding uses, and all its names in rising order where these are not just that one.
 #[derive(Drop)]
 pub struct AncestorRow {
     pub class_id: ClassId,
