@@ -2,7 +2,6 @@ pub mod AdaptedInTurn
 pub mod DeclaredInTurn
 pub mod ParentsNamed
 pub mod SeenRows
-pub mod WrittenClauses
 pub mod Pairs
 pub mod Places
 pub mod Texts

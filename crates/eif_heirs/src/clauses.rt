@@ -18,8 +18,9 @@ use crate::redefines::{DeclaringClass, final_names};
 use eif_adapt::{Adapted, AdaptedEntry, adapt};
 use eif_base::{ClassId, FaultList, Memory};
 use eif_rows::Row;
-use eif_tree::{ClassTree, ParentClause};
+use eif_tree::ParentClause;
 use eif_universe::Universe;
+use eif_written::clauses_of;
 use std::alloc::Global;
 
 /// A parent clause, with the number and the row of its class and what it makes of the features there.
@@ -29,20 +30,6 @@ pub struct Clause<'u> {
     pub parent: ClassId,
     pub row: &'u Row,
     pub adapted: Vec<AdaptedEntry>,
-}
-
-// The clauses of the class as written, or `any` where there is none and the class is not ANY.
-fn clauses_of<'u>(class: &'u ClassTree, any: &'u [ParentClause]) -> &'u [ParentClause]
-    requires { map parent_view any.now ≡ any_clause ∷ [] }
-    ensures { map parent_view result.now ≡ clauses (class_view class.now) }
-{
-    if !class.parents.is_empty() {
-        &class.parents
-    } else if class.name.text() == b"any".as_slice() {
-        &any[..0]
-    } else {
-        any
-    }
 }
 
 // What the clause of the class makes of the features of the class with that row. Adds its faults.

@@ -1,10 +1,9 @@
-use Rattle.std.proofs.Common.{◌≡◌, true, false, [], length, map, sym, ap, ap₂, ◌∙◌}
-use Rattle.std.specs.Prelude.{◌==◌, not}
+use Rattle.std.proofs.Common.{◌≡◌, true, false, length, map, sym, ap, ap₂, ◌∙◌}
+use Rattle.std.specs.Prelude.{◌==◌}
 use Rattle.std.specs.Str.{bytes_eq}
-use Rattle.eif_system.specs.Kernel.{any_name}
 use Rattle.eif_tree.specs.View.{parent_view}
-use Rattle.eif_heirs.proofs.WrittenClauses.{any_without, none_left, other_without, written_clauses}
-use Rattle.eif_heirs.proofs.clauses.clauses_of.Goals as goal
+use Rattle.eif_written.proofs.WrittenClauses.{any_without, none_left, other_without, written_clauses}
+use Rattle.eif_written.proofs.clauses.clauses_of.Goals as goal
 
 pub returns-then-not-is_empty : goal.returns-then-not-is_empty
 returns-then-not-is_empty c =
