@@ -65,7 +65,7 @@ none_by_clauses u c k m (p ∷ ps) none =
     first (Some q) e = none q (first_number (parent_number u c p) q (filter_map (parent_number u c) ps) e)
 
 module _ (u : List ClassT) (s : IsSystem u) where
-  module _ (k : ℕ) (m : List ℕ) (no : has_feature (line_of u k) m ≡ false) where
+  module _ (k : ℕ) (m : List ℕ) (absent : has_feature (line_of u k) m ≡ false) where
     abbrev IsUnreached : ℕ → Type 0
     IsUnreached d = reach (line_of u d) k m ≡ []
 
@@ -80,7 +80,7 @@ module _ (u : List ClassT) (s : IsSystem u) where
             ≡ []
         go true e =
             let none = ap (λ l. has_feature l m) (sym over)
-            ∙ (ap (λ j. has_feature (line_of u j) m) (eqb-true d k e) ∙ no) in
+            ∙ (ap (λ j. has_feature (line_of u j) m) (eqb-true d k e) ∙ absent) in
             ap (λ b. option_to_list (if b then Some m else None)) none
         go false e = ap name_set (none_by_clauses u c k m (clauses c) parents)
 
@@ -194,8 +194,8 @@ kept_numbers u d k m x is id of named fs are =
 -- and there are none where k has no such name
 pub none_kept : (u : List ClassT) → IsSystem u → (d k : ℕ) (m : List ℕ) → has_feature (line_of u k) m ≡ false
     → kept_names (line_of u d) k m ≡ reach (line_of u d) k m
-none_kept u s d k m no =
-    let none = unreached u s k m no d in
+none_kept u s d k m absent =
+    let none = unreached u s k m absent d in
     ap (filter (λ n. option_map_or (is_version_of k m) (origin (line_of u d) n) false)) none ∙ sym none
 
 -- ---- the proper ancestors of a class, by their places

@@ -1,6 +1,6 @@
 //! The rule of replication: a body that stands under several names uses no feature that has several.
 
-ghost use Rattle.std.specs.Prelude.{◌≡◌, ◌++◌, ℕ, List, map, flat_map, Some, slice_get, IfOk, OnOk};
+ghost use Rattle.std.specs.Prelude.{◌≡◌, ◌++◌, ℕ, false, List, map, flat_map, Some, slice_get, IfSome, IfOk, OnOk};
 ghost use Rattle.std.specs.List.{filter};
 ghost use Rattle.std.specs.Option.{option_map_or};
 ghost use Rattle.eif_classes.specs.Binding.{reach};
@@ -66,6 +66,16 @@ fn is_version(draft: &FeatureDraft, id: DeclarationId) -> bool
     }
 }
 
+/// Whether the version of the feature comes from that declaration.
+fn is_kept(drafts: &[FeatureDraft], feat: FeatId, id: DeclarationId) -> bool
+    ensures { result ≡ option_map_or (λ x. keeps x id) (slice_get drafts.now feat.0) false }
+{
+    match drafts.get(feat.0 as usize) {
+        Some(draft) => is_version(draft, id),
+        None => false,
+    }
+}
+
 /// Those of the features whose versions come from that declaration.
 fn kept_among(
     alloc: Global,
@@ -78,10 +88,8 @@ fn kept_among(
 {
     let mut out = Vec::new(alloc);
     'features: for feat in features {
-        if let Some(draft) = drafts.get(feat.0 as usize) {
-            if is_version(draft, id) {
-                out.push(*feat)?;
-            }
+        if is_kept(drafts, *feat, id) {
+            out.push(*feat)?;
         }
     }
     Ok(out)
