@@ -1,6 +1,6 @@
 -- The names of a class that an ancestor's feature has in it, and those that keep what the ancestor declares.
-use Rattle.std.proofs.Common.{◌≡◌, ℕ, Bool, true, false, List, [], ◌∷◌, ◌++◌, length, map, Option, Some, None, refl, sym, ap, ap₂, subst}
-use Rattle.std.proofs.Common.{◌∙◌, ◌<◌, cond, ⊎_elim}
+use Rattle.std.proofs.Common.{◌≡◌, ℕ, ◌<◌, Bool, true, false, cond, List, [], ◌∷◌, ◌++◌, length, map}
+use Rattle.std.proofs.Common.{Option, Some, None, refl, sym, ap, ap₂, subst, ◌∙◌, ⊎_elim}
 use Rattle.std.proofs.lemmas.Bool.{eqb-true}
 use Rattle.std.proofs.lemmas.Cmp.{nat_list_cmp_total}
 use Rattle.std.proofs.lemmas.Option.{same_Some, slice_get_within}
@@ -26,7 +26,8 @@ use Rattle.eif_heirs.specs.RowsAbove.{AreRowsAbove}
 use Rattle.eif_heirs.specs.declared.drafts.FeatureDraft.{FeatureDraft}
 use Rattle.eif_lineage_laws.proofs.Descending.{above_before, class_or_none, lines_of, no_line}
 use Rattle.eif_lineage_laws.proofs.EachItem.{all_at}
-use Rattle.eif_lineage_laws.proofs.Unfolding.{by_parents, class_at, first_number, later_number, place_at, unfolded, Step}
+use Rattle.eif_lineage_laws.proofs.Unfolding.{by_parents, class_at, first_number, later_number, place_at, unfolded}
+use Rattle.eif_lineage_laws.proofs.Unfolding.{Step}
 use Rattle.eif_lineage_laws.specs.Lineages.{line_over}
 use Rattle.eif_rows.proofs.ClassSets.{rising-names}
 use Rattle.eif_rows.proofs.Matches.{Match-at, Match-at_second, Match-map}
@@ -66,9 +67,11 @@ none_by_clauses u c k m (p ∷ ps) none =
 
 module _ (u : List ClassT) (s : IsSystem u) where
   module _ (k : ℕ) (m : List ℕ) (absent : has_feature (line_of u k) m ≡ false) where
+    -- the class d has no name of it
     abbrev IsUnreached : ℕ → Type 0
     IsUnreached d = reach (line_of u d) k m ≡ []
 
+    -- no more than its parents have
     unreached_step : Step u (order_in u s).0 (order_in u s).1 IsUnreached
     unreached_step d c at parents = ap (λ l. reach l k m) over ∙ go (d == k) refl
       where
@@ -76,15 +79,15 @@ module _ (u : List ClassT) (s : IsSystem u) where
         over = unfolded u (order_in u s).0 (order_in u s).1 d c at
 
         go : (b : Bool) → (d == k) ≡ b
-            → (if b then option_to_list (own_name (line_over u d c) m) else name_set (reached (lines_of u c (clauses c)) k m))
-            ≡ []
+            → (if b then option_to_list (own_name (line_over u d c) m)
+            else name_set (reached (lines_of u c (clauses c)) k m)) ≡ []
         go true e =
             let none = ap (λ l. has_feature l m) (sym over)
             ∙ (ap (λ j. has_feature (line_of u j) m) (eqb-true d k e) ∙ absent) in
             ap (λ b. option_to_list (if b then Some m else None)) none
         go false e = ap name_set (none_by_clauses u c k m (clauses c) parents)
 
-    -- a name that the class k has not
+    -- what is no name of the class k has no name in any class
     pub unreached : (d : ℕ) → reach (line_of u d) k m ≡ []
     unreached d = ⊎_elim
         (λ (c : (c : ClassT) × (slice_get u d ≡ Some c)).
@@ -92,7 +95,7 @@ module _ (u : List ClassT) (s : IsSystem u) where
         (λ (e : slice_get u d ≡ None). ap (λ l. reach l k m) (no_line u d e))
         (class_or_none u d)
 
-  -- a proper ancestor is a class of the universe
+  -- the number of a proper ancestor is that of a class
   pub ancestor_within : (d k : ℕ) (c : ClassT) → slice_get u d ≡ Some c → is_member k (above (line_of u d)) ≡ true
       → k < length u
   ancestor_within d k c at listed =
@@ -104,18 +107,25 @@ module _ (u : List ClassT) (s : IsSystem u) where
 
 -- ---- what a class has under a name, by its number
 
+-- each feature is found by its name
 feature_found : (l : Line) (i : ℕ) (f : Feature) → slice_get (features l) i ≡ Some f → feature l f.name ≡ Some f
 feature_found (line d c ups) i f at =
-    all_at (λ (f : Feature). feature (line d c ups) f.name ≡ Some f) (features (line d c ups)) i f (each_found d c ups) at
+    all_at (λ (f : Feature). feature (line d c ups) f.name ≡ Some f) (features (line d c ups)) i f
+    (each_found d c ups) at
 feature_found cut i f at = absurd (cc)
 
 -- the feature at the place of a name is that of the name
-pub feature_at : (l : Line) (i : ℕ) (n : List ℕ) → slice_get (names l) i ≡ Some n
+feature_at : (l : Line) (i : ℕ) (n : List ℕ) → slice_get (names l) i ≡ Some n
     → (f : Feature) × (slice_get (features l) i ≡ Some f) × (origin l n ≡ Some f.origin)
 feature_at l i n at =
     let named : Feature → List ℕ → Type 0 = λ f m. f.name ≡ m in
-    let p = Match-at_second named (features l) (names l) (Match-map named (λ f. f.name) (features l) (λ f. refl)) i n at in
-    (p.0, p.1, ap (λ m. origin l m) (sym p.2) ∙ ap (λ (o : Option Feature). option_map (λ f. f.origin) o) (feature_found l i p.0 p.1))
+    let each = Match-map named (λ f. f.name) (features l) (λ f. refl) in
+    let p = Match-at_second named (features l) (names l) each i n at in (
+      p.0,
+      p.1,
+      ap (origin l) (sym p.2)
+          ∙ ap (λ (o : Option Feature). option_map (λ f. f.origin) o) (feature_found l i p.0 p.1),
+    )
 
 -- numbers of names of a class are one just where the names are
 same_names : (l : Line) (i j : ℕ) (n m : List ℕ) → slice_get (names l) i ≡ Some n → slice_get (names l) j ≡ Some m
@@ -128,6 +138,7 @@ same_names l i j n m at there =
 
 module _ (u : List ClassT) (k : ℕ) (m : List ℕ) (id : DeclarationId) (of : id.class_id.0 ≡ k)
     (named : name_of (names (line_of u k)) id.feat ≡ Some m) where
+  -- a declaration is that just where it is of the class k and of the name m
   same_as : (a : DeclarationId) (x : Declaration) → IsDeclaration u a x
       → same_declaration (Some a) (Some id) ≡ ((x.class_number == k) && bytes_eq x.name m)
   same_as a x is =
@@ -135,12 +146,13 @@ module _ (u : List ClassT) (k : ℕ) (m : List ℕ) (id : DeclarationId) (of : i
     where
       go : (b : Bool) → (x.class_number == k) ≡ b → (b && (a.feat.0 == id.feat.0)) ≡ (b && bytes_eq x.name m)
       go true e =
-          same_names (line_of u k) a.feat.0 id.feat.0 x.name m
-          (subst (λ j. slice_get (names (line_of u j)) a.feat.0 ≡ Some x.name) (eqb-true x.class_number k e) is.name) named
+          let there = subst (λ j. slice_get (names (line_of u j)) a.feat.0 ≡ Some x.name)
+          (eqb-true x.class_number k e) is.name in
+          same_names (line_of u k) a.feat.0 id.feat.0 x.name m there named
       go false e = refl
 
   -- a version comes from it just where its origin is that
-  pub kept_version : (v : Option Version) (o : Origin) → IsVersionIfOne u v o
+  kept_version : (v : Option Version) (o : Origin) → IsVersionIfOne u v o
       → same_declaration (option_and_then declaration_id v) (Some id) ≡ is_version_of k m o
   kept_version None clashing is = refl
   kept_version (Some Deferred) deferred is = refl
@@ -149,7 +161,7 @@ module _ (u : List ClassT) (k : ℕ) (m : List ℕ) (id : DeclarationId) (of : i
   kept_version _ _ is = absurd is
 
   -- of a name of the class d, by its draft
-  pub kept_name : (d : ℕ) (x : HeirOf) → IsHeirOf u d k x → (f : FeatId) (n : List ℕ)
+  kept_name : (d : ℕ) (x : HeirOf) → IsHeirOf u d k x → (f : FeatId) (n : List ℕ)
       → name_of (names (line_of u d)) f ≡ Some n
       → option_map_or (λ r. keeps r id) (slice_get x.drafts.now f.0) false
       ≡ option_map_or (is_version_of k m) (origin (line_of u d) n) false
@@ -163,7 +175,8 @@ module _ (u : List ClassT) (k : ℕ) (m : List ℕ) (id : DeclarationId) (of : i
 
 -- ---- numbers and names that pass a test
 
-pub filter_named : (names : List (List ℕ)) (p : FeatId → Bool) (q : List ℕ → Bool)
+-- where numbers and their names pass alike, those that pass have the names that do
+filter_named : (names : List (List ℕ)) (p : FeatId → Bool) (q : List ℕ → Bool)
     → ((f : FeatId) (n : List ℕ) → name_of names f ≡ Some n → p f ≡ q n)
     → (fs : List FeatId) (ns : List (List ℕ)) → AreNamed names fs ns → AreNamed names (filter p fs) (filter q ns)
 filter_named names p q same [] [] h = refl
@@ -207,6 +220,7 @@ pub record IsAncestorAt (u : List ClassT) (d : ℕ) (rows : List (Option Row)) (
   pub becomes : IsAncestorRow u (line_of u d) x x.class_id.0
   pub row : (r : Row) → slice_get rows x.class_id.0 ≡ Some (Some r) → IsRow u x.class_id.0 r
 
+-- each row of what becomes of features is that of a proper ancestor, which has its own row
 pub ancestor_at : (u : List ClassT) (d : ℕ) (rows : List (Option Row)) → AreRowsAbove u rows d
     → (ancestors : List AncestorRow) → Match (IsAncestorRow u (line_of u d)) ancestors (above (line_of u d))
     → (i : ℕ) (x : AncestorRow) → slice_get ancestors i ≡ Some x → IsAncestorAt u d rows i x
@@ -219,5 +233,6 @@ ancestor_at u d rows kept ancestors all i x at =
       at = there;
       listed = member;
       becomes = subst (IsAncestorRow u (line_of u d) x) (sym p.2.class) p.2;
-      row = λ r e. subst (IsRow u x.class_id.0) (same_Some own.0 r (same_Some (Some own.0) (Some r) (sym own.1 ∙ e))) own.2;
+      row = λ r e.
+          subst (IsRow u x.class_id.0) (same_Some own.0 r (same_Some (Some own.0) (Some r) (sym own.1 ∙ e))) own.2;
     }

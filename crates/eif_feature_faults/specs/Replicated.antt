@@ -1,5 +1,5 @@
 -- A class beside one of its proper ancestors, and where its versions come from.
-use Rattle.std.specs.Prelude.{◌≡◌, ℕ, Bool, List, Option, Some}
+use Rattle.std.specs.Prelude.{◌≡◌, ℕ, Bool, List, Some}
 use Rattle.std.specs.Option.{option_and_then}
 use Rattle.eif_classes.specs.Features.{features, names}
 use Rattle.eif_feature_faults.specs.declared.replication.HeirOf.{HeirOf}

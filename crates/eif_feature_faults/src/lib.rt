@@ -1,4 +1,5 @@
-//! The rules of the features of a class: of what it declares, of its names, of selection and of replication.
+//! The rules of the features of a class: of what it declares, of its names, of selection and of
+//! replication.
 #![tactic(auto)]
 
 mod candidates;

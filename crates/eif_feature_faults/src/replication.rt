@@ -1,11 +1,12 @@
-//! The rule of replication: a body that stands under several names uses no feature that has several.
+//! The rule of replication: a body that stands under several names uses no feature that has
+//! several.
 
 ghost use Rattle.std.specs.Prelude.{◌≡◌, ◌++◌, ℕ, false, List, map, flat_map, Some, slice_get, IfSome, IfOk, OnOk};
 ghost use Rattle.std.specs.List.{filter};
 ghost use Rattle.std.specs.Option.{option_map_or};
 ghost use Rattle.eif_classes.specs.Binding.{reach};
 ghost use Rattle.eif_classes.specs.Descent.{above};
-ghost use Rattle.eif_classes.specs.Features.{features, names, origin};
+ghost use Rattle.eif_classes.specs.Features.{features, names};
 ghost use Rattle.eif_classes.specs.Names as names_rules;
 ghost use Rattle.eif_feature_faults.specs.Candidates.{AreNamed};
 ghost use Rattle.eif_feature_faults.specs.DeclaredViews.{declared_view};
@@ -34,8 +35,8 @@ use eif_universe::Universe;
 use eif_used_names::used_names;
 use std::alloc::Global;
 
-/// A class beside one of its proper ancestors: the row of the ancestor, what becomes of its features
-/// in the class, and the names of the class with what it has under each.
+/// A class beside one of its proper ancestors: the row of the ancestor, what becomes of its
+/// features in the class, and the names of the class with what it has under each.
 #[derive(Clone, Copy)]
 struct HeirOf<'h> {
     row: &'h Row,
@@ -83,8 +84,8 @@ fn kept_among(
     features: &[FeatId],
     id: DeclarationId,
 ) -> Result<Vec<FeatId>, Memory>
-    ensures { IfOk result (λ v. v.items
-        ≡ filter (λ f. option_map_or (λ x. keeps x id) (slice_get drafts.now f.0) false) features.now) }
+    ensures { IfOk result (λ v. v.items ≡ filter
+        (λ f. option_map_or (λ x. keeps x id) (slice_get drafts.now f.0) false) features.now) }
 {
     let mut out = Vec::new(alloc);
     'features: for feat in features {
@@ -98,7 +99,8 @@ fn kept_among(
 impl<'h> HeirOf<'h> {
     /// The names that the ancestor's feature of that name has in the class.
     fn reached(&self, alloc: Global, name: &Name) -> Result<Vec<FeatId>, Memory>
-        ensures { IfOk result (λ v. (u : List ClassT) (d k : ℕ) → IsSystem u → IsHeirOf u d k self.now
+        ensures { IfOk result (λ v. (u : List ClassT) (d k : ℕ) → IsSystem u
+            → IsHeirOf u d k self.now
             → AreNamed (names (line_of u d)) v.items (reach (line_of u d) k name.now)) }
     {
         let mut out = Vec::new(alloc);
@@ -110,7 +112,8 @@ impl<'h> HeirOf<'h> {
 
     /// Whether the ancestor's feature of that name has several names in the class.
     fn is_split(&self, alloc: Global, name: &Name) -> Result<bool, Memory>
-        ensures { IfOk result (λ b. (u : List ClassT) (d k : ℕ) → IsSystem u → IsHeirOf u d k self.now
+        ensures { IfOk result (λ b. (u : List ClassT) (d k : ℕ) → IsSystem u
+            → IsHeirOf u d k self.now
             → b ≡ names_rules.are_several (reach (line_of u d) k name.now)) }
     {
         let reached = self.reached(alloc, name)?;
@@ -119,14 +122,20 @@ impl<'h> HeirOf<'h> {
 
     /// The names of the class whose versions are what the ancestor declares under that name.
     fn kept(&self, alloc: Global, name: &Name) -> Result<Vec<FeatId>, Memory>
-        ensures { IfOk result (λ v. (u : List ClassT) (d k : ℕ) → IsSystem u → IsHeirOf u d k self.now
+        ensures { IfOk result (λ v. (u : List ClassT) (d k : ℕ) → IsSystem u
+            → IsHeirOf u d k self.now
             → AreNamed (names (line_of u d)) v.items (rules.kept_names (line_of u d) k name.now)) }
     {
         let reached = self.reached(alloc, name)?;
         let class_id = self.becomes.class_id;
         match self.row.find(name) {
             Some(feat) => {
-                kept_among(alloc, self.drafts, &reached, DeclarationId { class_id, feat })
+                kept_among(
+                    alloc,
+                    self.drafts,
+                    &reached,
+                    DeclarationId { class_id, feat },
+                )
             }
             None => Ok(reached),
         }
@@ -134,7 +143,8 @@ impl<'h> HeirOf<'h> {
 
     /// Whether what the ancestor declares under that name stands under several names of the class.
     fn is_replicated(&self, alloc: Global, name: &Name) -> Result<bool, Memory>
-        ensures { IfOk result (λ b. (u : List ClassT) (d k : ℕ) → IsSystem u → IsHeirOf u d k self.now
+        ensures { IfOk result (λ b. (u : List ClassT) (d k : ℕ) → IsSystem u
+            → IsHeirOf u d k self.now
             → b ≡ names_rules.are_several (rules.kept_names (line_of u d) k name.now)) }
     {
         let kept = self.kept(alloc, name)?;
@@ -142,12 +152,7 @@ impl<'h> HeirOf<'h> {
     }
 
     /// Adds the fault of the name, if it is that of an ancestor's feature that has several names.
-    fn push_split_use(
-        &self,
-        alloc: Global,
-        name: &Name,
-        out: &mut FaultList,
-    ) -> Result<(), Memory>
+    fn push_split_use(&self, alloc: Global, name: &Name, out: &mut FaultList) -> Result<(), Memory>
         ensures { OnOk result ((u : List ClassT) (d k : ℕ) → IsSystem u → IsHeirOf u d k self.now
             → out.new ≡ out.old
             ++ rules.split_use (class_view self.now.tree.now) (line_of u d) k name.now) }

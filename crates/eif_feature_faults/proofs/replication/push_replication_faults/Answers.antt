@@ -1,5 +1,5 @@
-use Rattle.std.proofs.Common.{◌≡◌, ◌≤◌, ◌++◌, List, [], length, Some, sym, ap, ◌∙◌, arith}
-use Rattle.std.specs.Prelude.{flat_map, slice_get}
+use Rattle.std.proofs.Common.{◌≤◌, ◌++◌, [], length, Some, sym, ap, ◌∙◌, arith}
+use Rattle.std.specs.Prelude.{flat_map}
 use Rattle.std.specs.Option.{option_map_or}
 use Rattle.std.proofs.lemmas.Option.{slice_get-get_or}
 use Rattle.eif_classes.specs.Descent.{above}
@@ -22,7 +22,8 @@ tree-requires c =
     let x = c.becomes-item.result in
     let a = ancestor_at u h.class_id.0 c.args.rows.now c.requires.rows c.args.ancestors.now c.requires.ancestors i x
     (slice_get-get_or c.args.ancestors.now i x c.ancestors-test.true ∙ ap Some (sym c.becomes-item.is)) in
-    ancestor_within u c.requires.system h.class_id.0 x.class_id.0 (class_view h.tree.now) c.requires.heir.class_is a.listed
+    ancestor_within u c.requires.system h.class_id.0 x.class_id.0 (class_view h.tree.now) c.requires.heir.class_is
+    a.listed
 
 pub ancestors-preserved : goal.ancestors-preserved
 ancestors-preserved c =

@@ -9,5 +9,6 @@ use Rattle.eif_feature_faults.proofs.replication.push_replication_faults.Given a
 
 abbrev pub invariant-ancestors : goal.invariant-ancestors
 invariant-ancestors l =
-    let u = classes_of l.u in let line = line_of u l.heir.class_id.0 in l.out ≡ l.initial.out
-    ++ flat_map (ancestor_body_faults u (class_view l.heir.tree.now) line) (take l.becomes-index (above line))
+    let u = classes_of l.u in let own = line_of u l.heir.class_id.0 in
+    l.out ≡ l.initial.out
+    ++ flat_map (ancestor_body_faults u (class_view l.heir.tree.now) own) (take l.becomes-index (above own))

@@ -1,5 +1,5 @@
-use Rattle.std.proofs.Common.{◌≡◌, ◌≤◌, List, ◌++◌, length, map, Some, sym, ap, ◌∙◌, arith}
-use Rattle.std.specs.Prelude.{flat_map, slice_get}
+use Rattle.std.proofs.Common.{◌≤◌, ◌++◌, length, map, Some, sym, ap, ◌∙◌, arith}
+use Rattle.std.specs.Prelude.{flat_map}
 use Rattle.std.specs.Option.{option_map}
 use Rattle.std.proofs.lemmas.List.{length-map}
 use Rattle.std.proofs.lemmas.Option.{slice_get-get_or, slice_get-map}
@@ -28,7 +28,8 @@ returns c = λ u d k s is.
     let declared = c.deref-x-items.result.now in
     let class = class_view c.args.ancestor.now in
     let f = replicated_body (class_view c.args.self.now.tree.now) (line_of u d) k in
-    let past : length (map declared_view declared) ≤ c.declared.x-index = omega (arith, length-map declared declared_view) in
+    let past : length (map declared_view declared) ≤ c.declared.x-index =
+    omega (arith, length-map declared declared_view) in
     added_all f c.args.out.now (map declared_view declared) c.declared.x-index c.declared.out past
     (c.declared.invariant u d k s is)
     ∙ ap (λ xs. c.args.out.now ++ flat_map f xs)

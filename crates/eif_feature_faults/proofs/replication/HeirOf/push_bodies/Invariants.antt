@@ -11,5 +11,7 @@ use Rattle.eif_feature_faults.proofs.replication.HeirOf.push_bodies.Given as goa
 
 abbrev pub invariant-declared : goal.invariant-declared
 invariant-declared l =
-    (u : List ClassT) (d k : ℕ) → IsSystem u → IsHeirOf u d k l.self → l.out ≡ l.initial.out
-    ++ flat_map (replicated_body (class_view l.self.tree.now) (line_of u d) k) (take l.x-index (map declared_view l.x-items))
+    (u : List ClassT) (d k : ℕ) → IsSystem u → IsHeirOf u d k l.self
+    → l.out ≡ l.initial.out
+    ++ flat_map (replicated_body (class_view l.self.tree.now) (line_of u d) k)
+    (take l.x-index (map declared_view l.x-items))

@@ -1,10 +1,8 @@
-use Rattle.std.proofs.Common.{◌≡◌, ◌≤◌, List, ◌++◌, length, map, Some, sym, ap, ◌∙◌, arith}
-use Rattle.std.specs.Prelude.{flat_map, slice_get}
+use Rattle.std.proofs.Common.{◌≤◌, ◌++◌, length, map, Some, sym, ap, ◌∙◌, arith}
+use Rattle.std.specs.Prelude.{flat_map}
 use Rattle.std.specs.Option.{option_map}
-use denote.Ref.{Bor}
 use Rattle.std.proofs.lemmas.List.{length-map}
 use Rattle.std.proofs.lemmas.Option.{slice_get-get_or, slice_get-map}
-use Rattle.eif_base.specs.declared.name.Name.{Name}
 use Rattle.eif_feature_faults.proofs.InTurn.{added_all, added_more}
 use Rattle.eif_feature_rules.specs.ReplicationRules.{split_use}
 use Rattle.eif_system.specs.Lineage.{line_of}

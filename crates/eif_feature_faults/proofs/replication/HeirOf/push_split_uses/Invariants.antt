@@ -11,5 +11,7 @@ use Rattle.eif_feature_faults.proofs.replication.HeirOf.push_split_uses.Given as
 
 abbrev pub invariant-used : goal.invariant-used
 invariant-used l =
-    (u : List ClassT) (d k : ℕ) → IsSystem u → IsHeirOf u d k l.self → l.out ≡ l.initial.out
-    ++ flat_map (split_use (class_view l.self.tree.now) (line_of u d) k) (take l.name-index (map lent_name l.name-items))
+    (u : List ClassT) (d k : ℕ) → IsSystem u → IsHeirOf u d k l.self
+    → l.out ≡ l.initial.out
+    ++ flat_map (split_use (class_view l.self.tree.now) (line_of u d) k)
+    (take l.name-index (map lent_name l.name-items))

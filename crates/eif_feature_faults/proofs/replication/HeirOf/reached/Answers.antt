@@ -1,5 +1,4 @@
 use Rattle.std.proofs.Common.{◌≡◌, ℕ, List, [], map, Some, ap, sym, ◌∙◌, rules}
-use Rattle.eif_base.specs.declared.feat_id.FeatId.{FeatId}
 use Rattle.eif_classes.specs.Features.{names}
 use Rattle.eif_feature_faults.proofs.Replicating.{unreached}
 use Rattle.eif_rows.specs.AncestorRows.{reached_at}
