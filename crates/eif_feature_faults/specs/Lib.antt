@@ -1,4 +1,5 @@
 pub mod Candidates
 pub mod DeclaredViews
+pub mod Replicated
 pub mod Selected
 pub mod Versions

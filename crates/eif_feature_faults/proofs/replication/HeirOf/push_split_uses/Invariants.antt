@@ -1,0 +1,17 @@
+use Rattle.std.proofs.Common.{◌≡◌, ℕ, List, ◌++◌, map, take}
+use Rattle.std.specs.Prelude.{flat_map}
+use Rattle.eif_feature_faults.specs.Replicated.{IsHeirOf}
+use Rattle.eif_feature_rules.specs.ReplicationRules.{split_use}
+use Rattle.eif_rows.specs.Systems.{IsSystem}
+use Rattle.eif_system.specs.Lineage.{line_of}
+use Rattle.eif_tree.specs.Tree.{ClassT}
+use Rattle.eif_tree.specs.View.{class_view}
+use Rattle.eif_used_names.specs.LentNames.{lent_name}
+use Rattle.eif_feature_faults.proofs.replication.HeirOf.push_split_uses.Given as goal
+
+abbrev pub invariant-used : goal.invariant-used
+invariant-used l =
+    (u : List ClassT) (d k : ℕ) → IsSystem u → IsHeirOf u d k l.self
+    → l.out ≡ l.initial.out
+    ++ flat_map (split_use (class_view l.self.tree.now) (line_of u d) k)
+    (take l.name-index (map lent_name l.name-items))
