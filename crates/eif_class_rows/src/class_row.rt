@@ -62,17 +62,23 @@ fn field_numbers(alloc: Global, features: &[FeatureRow]) -> Result<Vec<FeatId>, 
 
 /// What is kept of the class, which has no breach.
 pub fn class_row(alloc: Global, judged: Judged<'_>) -> Result<Row, Memory>
-    requires names { length judged.entry.heir.names.items < 2 ^ 32 }
-    requires drafts { length judged.entry.drafts.items < 2 ^ 32 }
+    requires names { length judged.heir.names.items < 2 ^ 32 }
+    requires drafts { length judged.drafts.items < 2 ^ 32 }
     ensures { IfOk result (λ r. (u : List ClassT) (d : ℕ) → IsJudged u d judged.entry
         → judged.entry.faults ≡ [] → IsRow u d r) }
 {
-    let features = feature_rows(alloc, judged.drafts)?;
+    let Judged {
+        heir,
+        drafts,
+        choices,
+        ..
+    } = judged;
+    let features = feature_rows(alloc, drafts)?;
     let fields = field_numbers(alloc, &features)?;
     Ok(Row {
-        names: judged.heir.names,
+        names: heir.names,
         features,
         fields,
-        ancestors: judged.choices.ancestors,
+        ancestors: choices.ancestors,
     })
 }

@@ -1,10 +1,9 @@
 //! The rows of classes while a universe is filled.
 
-ghost use Rattle.std.specs.Prelude.{◌≡◌, ◌<◌, ℕ, List, length, Some, slice_get, IfOk};
+ghost use Rattle.std.specs.Prelude.{◌≡◌, map, Some, IfOk};
 ghost use Rattle.std.specs.List.{list_all};
 ghost use Rattle.eif_class_rows.specs.Filling.{has_row, HasNone};
 ghost use Rattle.eif_rows.specs.Numbers.{class_numbers};
-ghost use Rattle.eif_rows.specs.declared.row.Row as row;
 
 use eif_base::{ClassId, Memory};
 use eif_rows::Row;
@@ -44,9 +43,7 @@ pub fn have_rows(rows: &[Option<Row>], classes: &[ClassId]) -> bool
 
 /// The rows of the classes, of which each has one.
 pub fn all_rows(alloc: Global, rows: Vec<Option<Row>>) -> Result<Vec<Row>, Memory>
-    ensures length { IfOk result (λ v. length v.items ≡ length rows.items) }
-    ensures each { IfOk result (λ v. (d : ℕ) (r : row.Row) → slice_get v.items d ≡ Some r
-        → slice_get rows.items d ≡ Some (Some r)) }
+    ensures { IfOk result (λ v. map Some v.items ≡ rows.items) }
 {
     let mut all = Vec::with_capacity(alloc, rows.len())?;
     'rows: for row in rows {
