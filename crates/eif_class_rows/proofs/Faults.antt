@@ -1,5 +1,5 @@
 -- The faults of a class, one rule after the other.
-use Rattle.std.proofs.Common.{◌≡◌, ℕ, List, [], ◌++◌, sym, ap, subst, ◌∙◌}
+use Rattle.std.proofs.Common.{◌≡◌, ℕ, List, ◌++◌, sym, ap, subst, ◌∙◌}
 use Rattle.eif_base.specs.declared.fault.Fault.{Fault}
 use Rattle.eif_class_rows.specs.ClassRows.{IsJudged}
 use Rattle.eif_class_rows.specs.declared.judged.Judged.{Judged}

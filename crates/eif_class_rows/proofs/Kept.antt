@@ -3,13 +3,11 @@ use Rattle.std.proofs.Common.{◌≡◌, ℕ, List, [], ◌∷◌, ◌++◌, len
 use Rattle.std.proofs.lemmas.List.{length-map}
 use Rattle.std.proofs.lemmas.Option.{same_Some}
 use Rattle.std.specs.List.{filter, flat_map}
-use Rattle.std.specs.Prelude.{slice_get}
-use Rattle.eif_base.specs.declared.fault.Fault.{Fault}
 use Rattle.eif_class_rows.specs.ClassRows.{IsJudged, feature_row, row_version}
 use Rattle.eif_class_rows.specs.declared.judged.Judged.{Judged}
 use Rattle.eif_classes.specs.Descent.{above}
 use Rattle.eif_classes.specs.Entries.{Feature, Origin, deferred, declared_as, clashing}
-use Rattle.eif_classes.specs.Features.{entries, features, is_field, names}
+use Rattle.eif_classes.specs.Features.{entries, features, is_field}
 use Rattle.eif_feature_rules.specs.DeclarationRules.{declaration_faults}
 use Rattle.eif_feature_rules.specs.FeaturePhases.{own_feature_faults}
 use Rattle.eif_feature_rules.specs.FeatureRules.{adaptation_faults, clashing_name, count_names, deferred_name, many_ancestor_names, many_names, name_faults, origin_faults}
@@ -26,10 +24,9 @@ use Rattle.eif_rows.specs.Matched.{Match}
 use Rattle.eif_rows.specs.Numbers.{names_of}
 use Rattle.eif_rows.specs.Rows.{IsFeatureRow, IsRow}
 use Rattle.eif_rows.specs.Versions.{IsVersion, IsVersionIfOne}
-use Rattle.eif_rows.specs.declared.feature.FeatureRow.{FeatureRow}
 use Rattle.eif_rows.specs.declared.row.Row.{Row}
 use Rattle.eif_rows.specs.declared.version.Version.{Version}
-use Rattle.eif_system.specs.Lineage.{Line, line, Ups, line_of}
+use Rattle.eif_system.specs.Lineage.{line, Ups, line_of}
 use Rattle.eif_tree.specs.Tree.{ClassT}
 use Rattle.eif_tree.specs.View.{class_view}
 

@@ -4,7 +4,7 @@ use Rattle.std.proofs.Common.{Option, Some, None, refl, sym, ap, ap₂, ◌∙�
 use Rattle.std.proofs.lemmas.Bool.{eq-eqb}
 use Rattle.std.proofs.lemmas.List.{length_push}
 use Rattle.std.specs.List.{list_all}
-use Rattle.std.specs.Prelude.{slice_get, is_some, ◌&&◌, ◌==◌}
+use Rattle.std.specs.Prelude.{slice_get, ◌&&◌, ◌==◌}
 use Rattle.eif_ancestry.proofs.Members.{or_left, or_right, same_bool}
 use Rattle.eif_class_rows.proofs.Above.{above_further, parent_above}
 use Rattle.eif_class_rows.proofs.Whole.{whole_parents}

@@ -1,11 +1,9 @@
 -- Which classes of a system are whole, by their faults.
-use Rattle.std.proofs.Common.{◌≡◌, ℕ, ◌<◌, Bool, true, false, List, [], length, Option, Some, None, refl, sym, ap, subst, ◌∙◌}
+use Rattle.std.proofs.Common.{◌≡◌, ℕ, Bool, true, false, List, [], length, Option, Some, None, sym, ap, subst, ◌∙◌}
 use Rattle.std.proofs.lemmas.Bool.{eq-eqb}
-use Rattle.std.proofs.lemmas.Option.{slice_get_within}
 use Rattle.std.specs.List.{list_all}
 use Rattle.std.specs.Prelude.{slice_get, ◌==◌, nat_lt, if◌then◌else◌}
 use Rattle.eif_ancestry.proofs.Members.{is_false, or_right}
-use Rattle.eif_base.specs.declared.fault.Fault.{Fault}
 use Rattle.eif_class_rows.specs.ClassRows.{IsRowIfSound}
 use Rattle.eif_class_rows.specs.Filling.{IsRowIfWhole}
 use Rattle.eif_classes.specs.Descent.{above}

@@ -1,6 +1,5 @@
 -- A class with its breaches of the rules of features, and what is kept of it where it has none.
 use Rattle.std.specs.Prelude.{◌≡◌, ℕ, List, [], Option, Some, None}
-use Rattle.eif_base.specs.declared.fault.Fault.{Fault}
 use Rattle.eif_choices.specs.Chosen.{AreChoices}
 use Rattle.eif_class_rows.specs.declared.judged.Judged.{Judged}
 use Rattle.eif_classes.specs.Features.{features}

@@ -1,6 +1,5 @@
 -- What the phase of features gives.
-use Rattle.std.specs.Prelude.{◌≡◌, ◌≢◌, ℕ, ◌<◌, true, ⊤, List, [], length, Some, slice_get}
-use Rattle.eif_base.specs.Appends.{Has}
+use Rattle.std.specs.Prelude.{◌≡◌, ℕ, ◌<◌, true, ⊤, List, length, Some, slice_get}
 use Rattle.eif_base.specs.declared.fault.Fault.{Fault}
 use Rattle.eif_class_rows.specs.declared.phase.TableError.{TableError}
 use Rattle.eif_class_rows.specs.declared.phase.TableError.TheVariants as error

@@ -1,4 +1,4 @@
-use Rattle.std.proofs.Common.{◌≡◌, ◌≤◌, length, get_or, sym, subst, arith}
+use Rattle.std.proofs.Common.{◌≤◌, length, get_or, sym, subst, arith}
 use Rattle.std.proofs.lemmas.List.{append-nil, length-map, take_all}
 use Rattle.eif_base.specs.declared.class_id.ClassId.{ClassId}
 use Rattle.eif_class_rows.proofs.InOrder.{filled_more, filled_none, in_universe, next_rows, number_at}
