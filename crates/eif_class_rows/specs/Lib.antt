@@ -1,0 +1,3 @@
+pub mod ClassRows
+pub mod Filling
+pub mod Phase
