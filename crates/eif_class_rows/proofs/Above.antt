@@ -4,7 +4,8 @@ use Rattle.std.specs.Prelude.{slice_get}
 use Rattle.eif_ancestry.proofs.Climbing.{reaches_on, reaches_parent}
 use Rattle.eif_choices.proofs.Lines.{order_in}
 use Rattle.eif_classes.specs.Descent.{above, descends}
-use Rattle.eif_lineage_laws.proofs.Descending.{above_before, above_is_listed, descend_apart, listed_is_above, no_way_back, reaches_descends}
+use Rattle.eif_lineage_laws.proofs.Descending.{above_before, above_is_listed, listed_is_above}
+use Rattle.eif_lineage_laws.proofs.Descending.{descend_apart, no_way_back, reaches_descends}
 use Rattle.eif_lineage_laws.proofs.Unfolding.{class_at, parents_at, place_at}
 use Rattle.eif_rows.specs.Systems.{IsSystem}
 use Rattle.eif_system.specs.Graph.{is_member}

@@ -28,15 +28,16 @@ module _ (u : List ClassT) (h : Heir) (is : IsHeir u h) where
   c = class_view h.tree.now
 
   -- the faults of all rules are those of the class
-  pub faults_in_turn : (first second third fourth all : List Fault) → first ≡ each_clause (adaptation_faults c) (ups_in u c)
+  pub faults_in_turn : (first second third fourth all : List Fault)
+      → first ≡ each_clause (adaptation_faults c) (ups_in u c)
       → second ≡ first ++ declaration_faults u c (entries (ups_in u c))
       → third ≡ second ++ name_faults u c (features (line_of u h.class_id.0)) (above (line_of u h.class_id.0))
       → fourth ≡ third ++ selection_faults u c (ups_in u c) (above (line_of u h.class_id.0))
       → all ≡ fourth ++ replication_faults u c (line_of u h.class_id.0) (above (line_of u h.class_id.0))
       → all ≡ own_feature_faults u (line_of u h.class_id.0)
   faults_in_turn first second third fourth all a b e f g =
-      let together : all ≡ own_feature_faults_by u c (ups_in u c) (line_of u h.class_id.0) (above (line_of u h.class_id.0))
-      = cc in
+      let l = line_of u h.class_id.0 in
+      let together : all ≡ own_feature_faults_by u c (ups_in u c) l (above l) = cc in
       together
       ∙ (ap (λ l. own_feature_faults_by u c (ups_in u c) l (above l)) is.line_is
       ∙ sym (ap (own_feature_faults u) is.line_is))

@@ -3,7 +3,8 @@ use Rattle.std.proofs.Common.{◌≡◌, ℕ, zero, suc, ◌+◌, ◌<◌, true,
 use Rattle.std.proofs.Common.{get_or, set, take, Option, Some, None, refl, sym, ap, subst, ◌∙◌, arith}
 use Rattle.std.proofs.lemmas.Bool.{cases_Bool, eq-eqb, eqb-false, eqb-true}
 use Rattle.std.proofs.lemmas.List.{length-set}
-use Rattle.std.proofs.lemmas.Option.{get_or_from_slice_get, same_Some, slice_get-get_or, slice_get-map, slice_get_within}
+use Rattle.std.proofs.lemmas.Option.{get_or_from_slice_get, same_Some, slice_get-get_or, slice_get-map}
+use Rattle.std.proofs.lemmas.Option.{slice_get_within}
 use Rattle.std.specs.Option.{option_map}
 use Rattle.std.specs.Prelude.{slice_get, is_some, ◌==◌}
 use Rattle.eif_base.specs.declared.class_id.ClassId.{ClassId}
@@ -30,9 +31,10 @@ member_before (x ∷ xs) (suc i) zero k lt e = or_left (x == k) (is_member k (ta
 member_before (x ∷ xs) (suc i) (suc j) k lt e =
     or_right (x == k) (is_member k (take i xs)) (member_before xs i j k (omega arith) e)
 
--- a class with a row has it at its place
-row_kept : (rows : List (Option Row)) (k : ℕ) (o : Option Row) → slice_get rows k ≡ Some o → has_row rows k ≡ is_some o
-row_kept rows k o e = ap is_some (get_or_from_slice_get rows k o None e)
+-- whether a class has a row, by what stands at its place
+has_row_at : (rows : List (Option Row)) (k : ℕ) (o : Option Row) → slice_get rows k ≡ Some o →
+    has_row rows k ≡ is_some o
+has_row_at rows k o e = ap is_some (get_or_from_slice_get rows k o None e)
 
 -- a whole class has a row by what is kept of it
 row_of_whole : (u : List ClassT) (d : ℕ) (o : Option Row) → IsRowIfWhole u d o → is_whole u d ≡ true → is_some o ≡ true
@@ -57,7 +59,7 @@ module _ (u : List ClassT) where
   filled_none rows is = record {
     long = is.long;
     of_whole = λ k r at.
-        let z : true ≡ false = sym (row_kept rows k (Some r) at) ∙ is.none k in absurd (cc);
+        let z : true ≡ false = sym (has_row_at rows k (Some r) at) ∙ is.none k in absurd (cc);
     done_have = λ k m w. let z : false ≡ true = m in cc;
   }
 
@@ -96,14 +98,14 @@ module _ (u : List ClassT) where
         | inl t ↦ (
             let same = eqb-true d k t in
             subst (λ k. has_row (set rows d o) k ≡ true) same
-            (row_kept (set rows d o) d o new_row
+            (has_row_at (set rows d o) d o new_row
             ∙ row_of_whole u d o is (subst (λ k. is_whole u k ≡ true) (sym same) w)))
         | inr f ↦ (
             let before = or_cases (is_member k (take i order) ≡ true) (is_member k (take i order)) (d == k)
             (sym (member_one_more (take i order) d k) ∙ m) (λ t. t)
             (λ t. let z : false ≡ true = sym f ∙ t in cc) in
             let row = kept_row rows k (filled.done_have k before w) in
-            row_kept (set rows d o) k (Some row.0) (old_row k f ∙ row.1))
+            has_row_at (set rows d o) k (Some row.0) (old_row k f ∙ row.1))
       ]
 
       -- one class more is judged

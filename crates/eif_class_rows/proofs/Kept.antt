@@ -10,7 +10,8 @@ use Rattle.eif_classes.specs.Entries.{Feature, Origin, deferred, declared_as, cl
 use Rattle.eif_classes.specs.Features.{entries, features, is_field}
 use Rattle.eif_feature_rules.specs.DeclarationRules.{declaration_faults}
 use Rattle.eif_feature_rules.specs.FeaturePhases.{own_feature_faults}
-use Rattle.eif_feature_rules.specs.FeatureRules.{adaptation_faults, clashing_name, count_names, deferred_name, many_ancestor_names, many_names, name_faults, origin_faults}
+use Rattle.eif_feature_rules.specs.FeatureRules.{adaptation_faults, clashing_name, deferred_name, origin_faults}
+use Rattle.eif_feature_rules.specs.FeatureRules.{count_names, many_ancestor_names, many_names, name_faults}
 use Rattle.eif_feature_rules.specs.ReplicationRules.{replication_faults}
 use Rattle.eif_feature_rules.specs.RuleForms.{each_clause}
 use Rattle.eif_feature_rules.specs.SelectionRules.{selection_faults}
@@ -83,21 +84,25 @@ no_origin_fault u d c ups none =
 pub record IsKept (j : Judged) (r : Row) : Type 0 where
   pub names_are : r.names.items ≡ j.heir.names.items
   pub features_are : r.features.items ≡ map feature_row j.drafts.items
-  pub fields_are : (u : List ClassT) (fs : List Feature) → Match (λ x f. IsVersion u x.version f.origin) r.features.items fs
+  pub fields_are : (u : List ClassT) (fs : List Feature)
+      → Match (λ x f. IsVersion u x.version f.origin) r.features.items fs
       → names_of (map (λ f. f.name) fs) r.fields.items ≡ map (λ f. Some f.name) (filter (λ f. is_field f.origin) fs)
   pub ancestors_are : r.ancestors.items ≡ j.choices.ancestors.items
 
+-- the names of features as names that are there
 map_Some : (fs : List Feature) → map Some (map (λ f. f.name) fs) ≡ map (λ f. Some f.name) fs
 map_Some [] = refl
 map_Some (f ∷ fs) = ap (λ ns. Some f.name ∷ ns) (map_Some fs)
 
 module _ (u : List ClassT) (j : Judged) (is : IsJudged u j.heir.class_id.0 j) where
+  -- the number and the text of the class
   abbrev d : ℕ
   d = j.heir.class_id.0
 
   abbrev c : ClassT
   c = class_view j.heir.tree.now
 
+  -- its features, if it has no fault
   features_kept : j.faults ≡ [] → Match (IsFeatureRow u d c) (map feature_row j.drafts.items) (features (line_of u d))
   features_kept none =
       let line = is.heir_is.line_is in
@@ -105,6 +110,7 @@ module _ (u : List ClassT) (j : Judged) (is : IsJudged u j.heir.class_id.0 j) wh
       (ap (λ l. flat_map (origin_faults c) (features l)) line
       ∙ no_origin_fault u d c (ups_in u c) (sym (ap (own_feature_faults u) line) ∙ (sym is.faults_are ∙ none)))
 
+  -- its row, if it has no fault
   row_kept : j.faults ≡ [] → (r : Row) → IsKept j r → IsRow u d r
   row_kept none r kept =
       let fs = features (line_of u d) in
@@ -120,6 +126,7 @@ module _ (u : List ClassT) (j : Judged) (is : IsJudged u j.heir.class_id.0 j) wh
             (sym kept.ancestors_are) is.choices_are.ancestors_are;
       }
 
+  -- it has as many drafts as names
   drafts_count : length j.drafts.items ≡ length j.heir.names.items
   drafts_count =
       length-Match (IsDraft u d c) j.drafts.items (features (line_of u d)) is.drafts_are
@@ -128,6 +135,7 @@ module _ (u : List ClassT) (j : Judged) (is : IsJudged u j.heir.class_id.0 j) wh
 -- ---- by the number of the class
 
 module _ (u : List ClassT) (d : ℕ) (j : Judged) (is : IsJudged u d j) where
+  -- what is judged of the class d is judged by the number of the heir
   own_number : IsJudged u j.heir.class_id.0 j
   own_number = subst (λ d. IsJudged u d j) (sym is.class_is) is
 

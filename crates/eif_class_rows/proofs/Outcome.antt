@@ -32,7 +32,8 @@ module _ (u : List ClassT) (system : IsSystem u) (order : List ℕ) (is : IsOrde
   pub faults_of_given : Has (faults_by u order) (FeaturesBroken (given_in u))
   faults_of_given = subst (λ g. Has (faults_by u order) (FeaturesBroken g))
       (sym (ap given_in system.is ∙ given_are system.given))
-      (subst (λ v. (order : List ℕ) → IsOrder (graph_of v) order → Has (faults_by v order) (FeaturesBroken system.given))
+      (subst
+      (λ v. (order : List ℕ) → IsOrder (graph_of v) order → Has (faults_by v order) (FeaturesBroken system.given))
       (sym system.is)
       (λ order is. record {
         only = given_fault system.given system.root system.sound order is;

@@ -32,9 +32,11 @@ kept_row (o ∷ rows) (suc k) h = kept_row rows k h
 
 -- ---- before the first class
 
+-- no row at all
 pub none_at_first : (rows : List (Option Row)) → rows ≡ [] → HasNone 0 rows
 none_at_first rows e = record { long = ap length e; none = λ k. ap (λ rs. has_row rs k) e }
 
+-- the place of one class more has no row
 none_push : (rows : List (Option Row)) → ((k : ℕ) → has_row rows k ≡ false) → (k : ℕ) →
     has_row (rows ++ None ∷ []) k ≡ false
 none_push [] none zero = refl
@@ -73,7 +75,7 @@ module _ (u : List ClassT) (system : IsSystem u) (rows : List (Option Row)) (d :
       (λ h. let r = kept_row rows q h in (are.of_whole q r.0 r.1).1)
       (λ w. are.above_have q (parent_above u system d c at q m) w)
 
-  -- the parents have rows where no ancestor has a breach
+  -- the parents have rows just where no ancestor has a breach
   pub parents_told : (ps : List ℕ) → ps ≡ parents_of (graph_of u) d →
       list_all (has_row rows) ps ≡ list_all (is_clean u) (above (line_of u d))
   parents_told ps e =

@@ -1,5 +1,6 @@
 -- The rows of a universe while its classes are judged: they are kept of the classes that are whole.
-use Rattle.std.specs.Prelude.{◌≡◌, ℕ, Bool, true, false, List, length, Option, Some, None, is_some, slice_get, slice_index_or}
+use Rattle.std.specs.Prelude.{◌≡◌, ℕ, Bool, true, false, List, length}
+use Rattle.std.specs.Prelude.{Option, Some, None, is_some, slice_get, slice_index_or}
 use Rattle.eif_classes.specs.Descent.{above}
 use Rattle.eif_rows.specs.Rows.{IsRow}
 use Rattle.eif_rows.specs.declared.row.Row.{Row}

@@ -26,8 +26,8 @@ use eif_tree::ParentClause;
 use eif_universe::Universe;
 use std::alloc::Global;
 
-/// A class with its breaches of the rules of features: what it has under each of its names, and what
-/// becomes in it of the features of its ancestors.
+/// A class with its breaches of the rules of features: what it has under each of its names, and
+/// what becomes in it of the features of its ancestors.
 #[derive(Drop)]
 pub struct Judged<'u> {
     pub heir: Heir<'u>,

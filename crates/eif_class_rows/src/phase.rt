@@ -1,9 +1,11 @@
 //! The classes of a universe, each judged after its parents.
 
 ghost use Rattle.std.specs.Prelude.{◌≡◌, ◌<◌, ◌∷◌, [], ◌++◌, length, map, IfErr, IfOk, OnOk};
+ghost use Rattle.std.specs.List.{list_all};
 ghost use Rattle.eif_class_rows.specs.Filling.{AreFilled, AreRowsFor, IsRowIfWhole};
 ghost use Rattle.eif_class_rows.specs.Phase.{AreWholeRows, IsErrorOf};
-ghost use Rattle.eif_feature_rules.specs.FeaturePhases.{feature_faults, FeaturesBroken};
+ghost use Rattle.eif_classes.specs.Descent.{above};
+ghost use Rattle.eif_feature_rules.specs.FeaturePhases.{feature_faults, FeaturesBroken, is_clean};
 ghost use Rattle.eif_rows.specs.Numbers.{class_numbers};
 ghost use Rattle.eif_rows.specs.Systems.{IsSystem};
 ghost use Rattle.eif_rules.specs.FaultForms.{IsNone};
@@ -44,8 +46,19 @@ impl From<Memory> for TableError {
     }
 }
 
-/// Adds the breaches of the class, where its parents and their ancestors have none. Its row, if it
-/// has none either.
+/// Whether no proper ancestor of the class has a breach.
+fn has_clean_ancestors(u: &Universe, rows: &[Option<Row>], class_id: ClassId) -> bool
+    requires class { class_id.0 < length (classes_of u.now) }
+    requires system { IsSystem (classes_of u.now) }
+    requires rows { AreRowsFor (classes_of u.now) rows.now class_id.0 }
+    ensures { let u = classes_of u.now in
+        result ≡ list_all (is_clean u) (above (line_of u class_id.0)) }
+{
+    have_rows(rows, u.parents(class_id))
+}
+
+/// Adds the breaches of the class, where its proper ancestors have none. Its row, if it has none
+/// either.
 fn judge_class(
     alloc: Global,
     u: &Universe,
@@ -62,7 +75,7 @@ fn judge_class(
     ensures faults { let u = classes_of u.now in OnOk result
         (out.new ≡ out.old ++ feature_faults u (line_of u class_id.0)) }
 {
-    if have_rows(rows, u.parents(class_id)) {
+    if has_clean_ancestors(u, rows, class_id) {
         push_judged(alloc, u, any, rows, class_id, out)
     } else {
         Ok(None)

@@ -52,7 +52,8 @@ returns c =
           (c.in_ok-heir.ensures.faults
           ∙ ap (λ (fs : List Fault). fs ++ each_clause (adaptation_faults class) (ups_in u class)) c.new-faults.ensures)
           c.in_ok-push_declaration_faults.ensures
-          (c.in_ok-push_name_faults.ensures u is rows drafts (ap class_numbers c.deref-2.ensures.value ∙ choices.above_are))
+          (c.in_ok-push_name_faults.ensures u is rows drafts
+          (ap class_numbers c.deref-2.ensures.value ∙ choices.above_are))
           (c.in_ok-push_selection_faults.ensures u is choices)
           c.in_ok-push_replication_faults.ensures;
     })

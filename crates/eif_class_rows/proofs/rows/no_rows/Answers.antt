@@ -8,7 +8,8 @@ classes-init c = none_at_first c.in_ok-rows.rows.items c.in_ok-rows.ensures.item
 
 pub classes-preserved : goal.classes-preserved
 classes-preserved c =
-    none_more c.classes.counter c.classes.rows.items c.push.new.self.items c.in_ok-push.ensures.items c.classes.invariant
+    none_more c.classes.counter c.classes.rows.items c.push.new.self.items c.in_ok-push.ensures.items
+    c.classes.invariant
 
 pub returns : goal.returns
 returns c =
