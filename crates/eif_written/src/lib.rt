@@ -11,3 +11,6 @@ pub use clauses::{any_clauses, clauses_of};
 pub use lent_fault::{LentFault, push_fault, push_where};
 pub use nested::nested_types;
 pub use written::{Owner, WrittenType, written_types};
+
+#[cfg(test)]
+mod tests;
