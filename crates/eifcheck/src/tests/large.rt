@@ -250,7 +250,8 @@ fn a_class_may_have_2048_names(rt: HostRuntime) -> Result<(), Fail> {
     Ok(())
 }
 
-/// A class `M` with 2,048 names, and a chain of so many heirs.
+/// A class `M` with 2,048 names, and a chain of so many heirs. The ancestors of the heir with the number k have
+/// 2,048 names k + 1 times, and the three of `ANY`.
 fn wide_chain(alloc: Global, count: usize) -> Result<System, Memory> {
     let mut system = with_wide(alloc, 2045)?;
     let name = String::from_str(alloc, "q0.e")?;
@@ -269,10 +270,6 @@ fn ancestors_may_have_65536_names(rt: HostRuntime) -> Result<(), Fail> {
     let mut system = wide_chain(alloc, 32)?;
     let report = b"XLIM q31 - q31.e:1:7 q31\nno 1 faults\n";
     let is_so = ends_so(&rt, alloc, &mut system, Status::Faults, report)?;
-    assert!(rt; is_so);
-    let mut system = wide_chain(alloc, 31)?;
-    let end = b"XYET q9 - q9.e:1:7 -\nno 32 faults\n";
-    let is_so = tells_last(&rt, alloc, &mut system, end)?;
     assert!(rt; is_so);
     Ok(())
 }
