@@ -227,8 +227,8 @@ fn wide(alloc: Global, count: usize) -> Result<String, Memory> {
 }
 
 /// `APP` and a class `M` with so many attributes, beside the three names of `ANY`.
-fn with_wide(alloc: Global, count: usize) -> Result<System, Memory> {
-    let mut system = new_system(alloc, &["--root", "app.make"])?;
+fn with_wide(alloc: Global, form: &str, count: usize) -> Result<System, Memory> {
+    let mut system = new_system(alloc, &["--root", "app.make", "--form", form])?;
     app(alloc, &mut system, 0)?;
     let text = wide(alloc, count)?;
     let name = String::from_str(alloc, "m.e")?;
@@ -239,11 +239,15 @@ fn with_wide(alloc: Global, count: usize) -> Result<System, Memory> {
 #[test]
 fn a_class_may_have_2048_names(rt: HostRuntime) -> Result<(), Fail> {
     let alloc = rt.alloc();
-    let mut system = with_wide(alloc, 2046)?;
+    let mut system = with_wide(alloc, "1", 2046)?;
     let report = b"XLIM m - m.e:1:7 m\nno 1 faults\n";
     let is_so = ends_so(&rt, alloc, &mut system, Status::Faults, report)?;
     assert!(rt; is_so);
-    let mut system = with_wide(alloc, 2045)?;
+    let mut system = with_wide(alloc, "2", 2046)?;
+    let report = b"XLIM.5 m - m.e:1:7 m\nXLIM 1\nno 1 faults\n";
+    let is_so = ends_so(&rt, alloc, &mut system, Status::Faults, report)?;
+    assert!(rt; is_so);
+    let mut system = with_wide(alloc, "1", 2045)?;
     let report = b"XYET m - m.e:1:7 -\nno 1 faults\n";
     let is_so = ends_so(&rt, alloc, &mut system, Status::Faults, report)?;
     assert!(rt; is_so);
@@ -253,7 +257,7 @@ fn a_class_may_have_2048_names(rt: HostRuntime) -> Result<(), Fail> {
 /// A class `M` with 2,048 names, and a chain of so many heirs. The ancestors of the heir with the number k have
 /// 2,048 names k + 1 times, and the three of `ANY`.
 fn wide_chain(alloc: Global, count: usize) -> Result<System, Memory> {
-    let mut system = with_wide(alloc, 2045)?;
+    let mut system = with_wide(alloc, "2", 2045)?;
     let name = String::from_str(alloc, "q0.e")?;
     add(alloc, &mut system, name, b"class Q0 inherit M end", 0)?;
     for i in 1..count {
@@ -268,7 +272,7 @@ fn wide_chain(alloc: Global, count: usize) -> Result<System, Memory> {
 fn ancestors_may_have_65536_names(rt: HostRuntime) -> Result<(), Fail> {
     let alloc = rt.alloc();
     let mut system = wide_chain(alloc, 32)?;
-    let report = b"XLIM q31 - q31.e:1:7 q31\nno 1 faults\n";
+    let report = b"XLIM.8 q31 - q31.e:1:7 q31\nXLIM 1\nno 1 faults\n";
     let is_so = ends_so(&rt, alloc, &mut system, Status::Faults, report)?;
     assert!(rt; is_so);
     Ok(())

@@ -12,7 +12,7 @@ const Z: &[u8] = b"class Z feature f do end end";
 
 const B: &[u8] = b"class B inherit Z end";
 
-pub const NAME_RULES: [Case; 39] = [
+pub const NAME_RULES: [Case; 41] = [
     // names declared twice
     Case {
         files: &[("k.e", b"class K feature f do end F do end end")],
@@ -200,6 +200,25 @@ pub const NAME_RULES: [Case; 39] = [
             ("h.e", b"class H inherit P rename f as g end end"),
         ],
         report: b"VMFN.3 h - h.e:1:7 g\nVMFN 1\nno 1 faults\n",
+    },
+    Case {
+        files: &[
+            ("p.e", P),
+            ("s.e", S),
+            ("h.e", b"class H inherit S rename f as g end P end"),
+        ],
+        report: b"VMFN.3 h - h.e:1:7 g\nVMFN 1\nno 1 faults\n",
+    },
+    Case {
+        files: &[
+            ("p.e", P),
+            ("s.e", S),
+            (
+                "h.e",
+                b"class H inherit S rename f as g end P rename g as x end end",
+            ),
+        ],
+        report: b"XYET.1 h - h.e:1:7 -\nXYET.1 p - p.e:1:7 -\nXYET.1 s - s.e:1:7 -\nXYET 3\nno 3 faults\n",
     },
     Case {
         files: &[
