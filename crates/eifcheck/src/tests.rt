@@ -1,12 +1,17 @@
 ghost use Rattle.std.specs.Prelude.{◌≢◌};
 ghost use Rattle.eifcheck.specs.declared.status.Status.TheVariants.{ReadFault, WriteFault};
 
+mod clause_rules;
+mod features;
 mod large;
+mod name_rules;
 mod rows;
+mod version_rules;
 
 use crate::system::complaint;
 use crate::{Status, eifcheck};
 use eif_base::{FileTexts, MemSink, MemTexts, OpenGate, SureSink, SureTexts, Texts};
+use features::FEATURE_ROWS;
 use rows::{APP, ROWS, Row};
 use std::alloc::{AllocError, Global};
 use std::fs;
@@ -342,6 +347,8 @@ fn refusals_are_told(rt: HostRuntime) {
 fn systems_in_memory(rt: HostRuntime) -> Result<(), Fail> {
     let wrong = wrong_in_memory(&rt, rt.alloc(), &ROWS)?;
     assert_eq!(rt; wrong, None);
+    let wrong = wrong_in_memory(&rt, rt.alloc(), &FEATURE_ROWS)?;
+    assert_eq!(rt; wrong, None, "of the rules of features");
     Ok(())
 }
 
@@ -349,6 +356,8 @@ fn systems_in_memory(rt: HostRuntime) -> Result<(), Fail> {
 fn systems_without_failures(rt: HostRuntime) -> Result<(), Fail> {
     let wrong = wrong_surely(&rt, rt.alloc(), &ROWS)?;
     assert_eq!(rt; wrong, None);
+    let wrong = wrong_surely(&rt, rt.alloc(), &FEATURE_ROWS)?;
+    assert_eq!(rt; wrong, None, "of the rules of features");
     Ok(())
 }
 
@@ -356,6 +365,8 @@ fn systems_without_failures(rt: HostRuntime) -> Result<(), Fail> {
 fn systems_in_files(rt: HostRuntime) -> Result<(), Fail> {
     let wrong = wrong_over_files(&rt, rt.alloc(), &ROWS)?;
     assert_eq!(rt; wrong, None);
+    let wrong = wrong_over_files(&rt, rt.alloc(), &FEATURE_ROWS)?;
+    assert_eq!(rt; wrong, None, "of the rules of features");
     Ok(())
 }
 

@@ -65,6 +65,25 @@ fn ends_so<R: Threads + Sync>(
     Ok(ended == status && sink.written() == report)
 }
 
+/// Whether the check finds faults, and the report on them ends with this.
+fn tells_last<R: Threads + Sync>(
+    rt: &R,
+    alloc: Global,
+    system: &mut System,
+    end: &[u8],
+) -> Result<bool, Memory> {
+    let mut sink = MemSink::new(alloc, 32768)?;
+    let ended = eifcheck(
+        rt,
+        alloc,
+        &system.words,
+        &mut system.texts,
+        &mut sink,
+        &OpenGate,
+    );
+    Ok(ended == Status::Faults && sink.written().ends_with(end))
+}
+
 #[test]
 fn a_file_may_have_a_mebibyte(rt: HostRuntime) -> Result<(), Fail> {
     let alloc = rt.alloc();
@@ -193,6 +212,93 @@ fn a_system_may_have_8192_files(rt: HostRuntime) -> Result<(), Fail> {
     assert!(rt; is_so);
     let mut system = plain(alloc, 8193)?;
     let is_so = ends_so(&rt, alloc, &mut system, Status::TooLarge, b"")?;
+    assert!(rt; is_so);
+    Ok(())
+}
+
+/// The text of a class `M` with so many attributes.
+fn wide(alloc: Global, count: usize) -> Result<String, Memory> {
+    let mut text = String::from_str(alloc, "class M feature f0")?;
+    for i in 1..count {
+        text.push_str(&format!(in alloc; ", f{i}")?)?;
+    }
+    text.push_str(": INTEGER end")?;
+    Ok(text)
+}
+
+/// `APP` and a class `M` with so many attributes, beside the three names of `ANY`.
+fn with_wide(alloc: Global, form: &str, count: usize) -> Result<System, Memory> {
+    let mut system = new_system(alloc, &["--root", "app.make", "--form", form])?;
+    app(alloc, &mut system, 0)?;
+    let text = wide(alloc, count)?;
+    let name = String::from_str(alloc, "m.e")?;
+    add(alloc, &mut system, name, text.as_bytes(), 0)?;
+    Ok(system)
+}
+
+#[test]
+fn a_class_may_have_2048_names(rt: HostRuntime) -> Result<(), Fail> {
+    let alloc = rt.alloc();
+    let mut system = with_wide(alloc, "1", 2046)?;
+    let report = b"XLIM m - m.e:1:7 m\nno 1 faults\n";
+    let is_so = ends_so(&rt, alloc, &mut system, Status::Faults, report)?;
+    assert!(rt; is_so);
+    let mut system = with_wide(alloc, "2", 2046)?;
+    let report = b"XLIM.5 m - m.e:1:7 m\nXLIM 1\nno 1 faults\n";
+    let is_so = ends_so(&rt, alloc, &mut system, Status::Faults, report)?;
+    assert!(rt; is_so);
+    let mut system = with_wide(alloc, "1", 2045)?;
+    let report = b"XYET m - m.e:1:7 -\nno 1 faults\n";
+    let is_so = ends_so(&rt, alloc, &mut system, Status::Faults, report)?;
+    assert!(rt; is_so);
+    Ok(())
+}
+
+/// A class `M` with 2,048 names, and a chain of so many heirs. The ancestors of the heir with the number k have
+/// 2,048 names k + 1 times, and the three of `ANY`.
+fn wide_chain(alloc: Global, count: usize) -> Result<System, Memory> {
+    let mut system = with_wide(alloc, "2", 2045)?;
+    let name = String::from_str(alloc, "q0.e")?;
+    add(alloc, &mut system, name, b"class Q0 inherit M end", 0)?;
+    for i in 1..count {
+        let name = format!(in alloc; "q{i}.e")?;
+        let text = format!(in alloc; "class Q{i} inherit Q{} end", i - 1)?;
+        add(alloc, &mut system, name, text.as_bytes(), 0)?;
+    }
+    Ok(system)
+}
+
+#[test]
+fn ancestors_may_have_65536_names(rt: HostRuntime) -> Result<(), Fail> {
+    let alloc = rt.alloc();
+    let mut system = wide_chain(alloc, 32)?;
+    let report = b"XLIM.8 q31 - q31.e:1:7 q31\nXLIM 1\nno 1 faults\n";
+    let is_so = ends_so(&rt, alloc, &mut system, Status::Faults, report)?;
+    assert!(rt; is_so);
+    Ok(())
+}
+
+/// `APP` and a chain of classes, in which so many inherit twice from the one before.
+fn doubled_chain(alloc: Global, count: usize) -> Result<System, Memory> {
+    let mut system = new_system(alloc, &["--root", "app.make"])?;
+    app(alloc, &mut system, 0)?;
+    let name = String::from_str(alloc, "d0.e")?;
+    let text = b"class D0 feature f do end end";
+    add(alloc, &mut system, name, text, 0)?;
+    for i in 0..count {
+        let name = format!(in alloc; "d{}.e", i + 1)?;
+        let text = format!(in alloc; "class D{} inherit D{i} D{i} end", i + 1)?;
+        add(alloc, &mut system, name, text.as_bytes(), 0)?;
+    }
+    Ok(system)
+}
+
+#[test]
+fn paths_are_not_counted_out(rt: HostRuntime) -> Result<(), Fail> {
+    let alloc = rt.alloc();
+    let mut system = doubled_chain(alloc, 40)?;
+    let end = b"XYET d9 - d9.e:1:7 -\nno 41 faults\n";
+    let is_so = tells_last(&rt, alloc, &mut system, end)?;
     assert!(rt; is_so);
     Ok(())
 }

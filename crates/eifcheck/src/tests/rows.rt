@@ -4,7 +4,7 @@ use crate::Status;
 
 pub const APP: &[u8] = b"class APP\ncreate make\nfeature\n  make\n    do\n    end\nend\n";
 
-const A: &[u8] =
+pub const A: &[u8] =
     b"class A\nfeature\n  ok: BOOLEAN\n  put (x: detachable ANY)\n    do\n    end\nend\n";
 
 const B: &[u8] = b"class B create run feature run do run end end";
@@ -85,7 +85,7 @@ pub const ROWS: [Row; 34] = [
             b"class APP create make feature make do end Make do end end",
         )],
         status: Status::Faults,
-        report: b"XYET app - app.e:1:7 -\nno 1 faults\n",
+        report: b"VMFN app make app.e:1:43 make\nno 1 faults\n",
     },
     Row {
         words: &["--root", "nosuch.make", "app.e"],
