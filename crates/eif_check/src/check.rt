@@ -2,10 +2,12 @@ ghost use Rattle.std.specs.Prelude.{◌≡◌, ◌≤◌, [], List, length, map,
 ghost use Rattle.eif_base.specs.Appends.{Has};
 ghost use Rattle.eif_base.specs.FileLists.{texts_of};
 ghost use Rattle.eif_rules.specs.FaultForms.{IsNone};
-ghost use Rattle.eif_system_rules.specs.SystemRules.{BodiesBroken, SystemBroken};
+ghost use Rattle.eif_rows.specs.Systems.{IsSystem};
+ghost use Rattle.eif_system_rules.specs.SystemRules.{BodiesBroken, ClassesBroken, SystemBroken};
 ghost use Rattle.eif_rules.specs.UniverseRules.{UniverseBroken};
 ghost use Rattle.eif_tree.specs.Tree.{ClassT};
 ghost use Rattle.eif_tree.specs.View.{class_view};
+ghost use Rattle.eif_universe.specs.Universes.{classes_of, given_in};
 ghost use Rattle.eif_check.specs.Limits.{AreShort};
 ghost use Rattle.eif_check.specs.Systems.{AreClasses, Broken};
 ghost use Rattle.eif_check.specs.Verdicts.{IsVerdict};
@@ -15,12 +17,13 @@ use crate::texts::{Parsed, parse_texts};
 use eif_base::limits::{MOST_FILES, MOST_WORKERS};
 use eif_base::{FaultList, FileList, Gate, Memory, Root};
 use eif_report::{Verdict, sort_faults};
+use eif_tables::{TableError, Tables};
 use eif_tree::ClassTree;
 use eif_universe::{Universe, UniverseError, kernel_trees};
 use std::alloc::Global;
 use std::thread::Threads;
 
-/// The faults of classes that break no rule of the universe.
+/// The faults of classes that break no rule of the universe and of features.
 fn bodies_faults(alloc: Global, given: &[ClassTree], root: &Root) -> Result<FaultList, Memory>
     requires { IsNone (UniverseBroken (map class_view given.now) root.now) }
     ensures { IfOk result (λ l. Has l (BodiesBroken (map class_view given.now) root.now)) }
@@ -38,6 +41,20 @@ fn bodies_faults(alloc: Global, given: &[ClassTree], root: &Root) -> Result<Faul
     Ok(faults)
 }
 
+/// The faults of the classes of the universe, which breaks no rule of its own.
+fn classes_faults(alloc: Global, universe: &Universe, root: &Root) -> Result<FaultList, Memory>
+    requires system { IsSystem (classes_of universe.now) }
+    requires sound { IsNone (UniverseBroken (given_in (classes_of universe.now)) root.now) }
+    ensures { IfOk result
+        (λ l. Has l (ClassesBroken (given_in (classes_of universe.now)) root.now)) }
+{
+    match Tables::build(alloc, universe) {
+        Ok(_) => bodies_faults(alloc, universe.given(), root),
+        Err(TableError::Faults(faults)) => Ok(faults),
+        Err(TableError::Memory) => Err(Memory),
+    }
+}
+
 /// The faults of a system of these classes.
 fn system_faults(alloc: Global, given: Vec<ClassTree>, root: &Root) -> Result<FaultList, Memory>
     requires { length given.items ≤ MOST_FILES }
@@ -45,7 +62,7 @@ fn system_faults(alloc: Global, given: Vec<ClassTree>, root: &Root) -> Result<Fa
 {
     let kernel = kernel_trees(alloc)?;
     match Universe::build(alloc, kernel, given, root) {
-        Ok(universe) => bodies_faults(alloc, universe.given(), root),
+        Ok(universe) => classes_faults(alloc, &universe, root),
         Err(UniverseError::Faults { faults, .. }) => Ok(faults),
         Err(UniverseError::Memory { .. }) => Err(Memory),
     }
