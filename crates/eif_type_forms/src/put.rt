@@ -9,8 +9,8 @@ use crate::ty::{Ty, type_at};
 use eif_base::Memory;
 use std::alloc::Global;
 
-/// The type with the actuals in place of the formals, each with the mark of its formal. A formal past
-/// the actuals becomes NONE.
+/// The type with the actuals in place of the formals, each with the mark of its formal. A formal
+/// past the actuals becomes NONE.
 #[cycle(put)]
 pub fn put_type(alloc: Global, t: &Ty, actuals: &[Ty]) -> Result<Ty, Memory>
     ensures { IfOk result (λ put. ty_view put ≡ put_in (actuals_view actuals.now) (ty_view t.now)) }

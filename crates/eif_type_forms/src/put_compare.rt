@@ -11,8 +11,8 @@ use crate::ty::{Ty, type_at};
 /// Whether the type with the actuals put in is the other.
 #[cycle(same)]
 pub fn same_put(t: &Ty, actuals: &[Ty], other: &Ty) -> bool
-    ensures { result
-        ≡ types.same_type (types.put_in (actuals_view actuals.now) (ty_view t.now)) (ty_view other.now) }
+    ensures { result ≡ types.same_type
+        (types.put_in (actuals_view actuals.now) (ty_view t.now)) (ty_view other.now) }
 {
     match t {
         Ty::Class {
@@ -39,11 +39,13 @@ pub fn same_put(t: &Ty, actuals: &[Ty], other: &Ty) -> bool
     }
 }
 
-/// Whether the types with the actuals put in each are as many as the others, and equal in their order.
+/// Whether the types with the actuals put in each are as many as the others, and equal in their
+/// order.
 #[cycle(same)]
 pub fn same_puts(ts: &[Ty], actuals: &[Ty], others: &[Ty]) -> bool
     ensures { result ≡ types.same_actuals
-        (types.put_in_all (actuals_view actuals.now) (actuals_view ts.now)) (actuals_view others.now) }
+        (types.put_in_all (actuals_view actuals.now) (actuals_view ts.now))
+        (actuals_view others.now) }
 {
     if ts.len() != others.len() {
         return false;

@@ -8,8 +8,8 @@ ghost use Rattle.eif_type_forms.specs.View.{ty_view, actuals_view};
 use crate::sizes::{capped_sum, count_names};
 use crate::ty::{Ty, type_at};
 
-/// How many names the type has with the actuals put in, or one more than a type may have where these
-/// are more.
+/// How many names the type has with the actuals put in, or one more than a type may have where
+/// these are more.
 #[cycle(counts)]
 pub(crate) fn count_put(t: &Ty, actuals: &[Ty]) -> u32
     ensures { result ≡ min (suc MOST_TYPE_NAMES)

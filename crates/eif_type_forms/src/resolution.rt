@@ -1,6 +1,6 @@
 //! The types that a class text writes.
 
-ghost use Rattle.std.specs.Prelude.{◌≡◌, ◌<◌, ◌^◌, length, map, IfOk};
+ghost use Rattle.std.specs.Prelude.{◌≡◌, ◌<◌, ◌^◌, length, map, IfOk, IfSome};
 ghost use Rattle.std.specs.Option.{option_map};
 ghost use Rattle.eif_classes.specs.Resolution as the;
 ghost use Rattle.eif_tree.specs.View.{class_view, type_view, types_from};
@@ -25,7 +25,8 @@ fn class_mark(mark: Mark) -> Mark
 
 /// The place of the name among the formals of the class, from 0.
 fn formal_number(class: &ClassTree, name: &Name) -> Option<usize>
-    ensures { result ≡ the.formal_number (class_view class.now) name.now }
+    ensures number { result ≡ the.formal_number (class_view class.now) name.now }
+    ensures within { IfSome result (λ i. i < length class.now.formals.items) }
 {
     class.formals.iter().position(|formal| formal.name == *name)
 }
@@ -45,8 +46,8 @@ fn class_type(class_id: Option<ClassId>, mark: Mark, actuals: Vec<Ty>) -> Ty
     }
 }
 
-/// What the type means in the class, which is one of the universe or stands by itself. NONE where its
-/// name is that of no formal and of no class.
+/// What the type means in the class, which is one of the universe or stands by itself. NONE where
+/// its name is that of no formal and of no class.
 #[cycle(resolve)]
 pub fn resolve(
     alloc: Global,

@@ -8,8 +8,8 @@ use eif_base::{ClassId, Memory};
 use eif_tree::Mark;
 use std::alloc::Global;
 
-/// A type over the formals of a class. The mark of a class type is never plain. A formal is named by
-/// its place among the formals of the class, from 0. `Nothing` is NONE, the type of `Void`.
+/// A type over the formals of a class. The mark of a class type is never plain. A formal is named
+/// by its place among the formals of the class, from 0. `Nothing` is NONE, the type of `Void`.
 #[derive(Drop)]
 pub enum Ty {
     Class {
