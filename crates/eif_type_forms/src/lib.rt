@@ -21,3 +21,6 @@ pub use put_sizes::count_puts;
 pub use resolution::{resolve, resolve_all};
 pub use substitution::{SubstError, substitute};
 pub use ty::{Ty, own_formals, type_at};
+
+#[cfg(test)]
+mod tests;
