@@ -1,0 +1,3 @@
+pub mod Marking
+pub mod Resolving
+pub mod Views
