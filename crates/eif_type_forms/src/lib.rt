@@ -14,7 +14,7 @@ mod ty;
 
 pub use compare::{same_type, same_types};
 pub use copies::{copy_type, copy_types};
-pub use marks::{marked_mark, same_mark};
+pub use marks::{mark_conforms, marked_mark, same_mark};
 pub use put::{put_type, put_types};
 pub use put_compare::{same_put, same_puts};
 pub use put_sizes::count_puts;
