@@ -7,6 +7,7 @@ mod origin;
 mod row_entry;
 mod tables;
 
+pub use eif_class_rows::TableError;
 pub use origin::Origin;
 pub use row_entry::RowEntry;
 pub use tables::{Tables, tables_cross};

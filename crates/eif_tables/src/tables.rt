@@ -1,20 +1,23 @@
 ghost use Rattle.std.specs.Prelude.{◌≡◌, ◌≢◌, ◌<◌, ℕ, List, length, map, slice_get, Some};
-ghost use Rattle.std.specs.Prelude.{IfOk, IfSome, IfNone, false, true};
+ghost use Rattle.std.specs.Prelude.{IfOk, OnOk, IfErr, IfSome, IfNone, false, true};
 ghost use Rattle.std.specs.List.Sorted.{IsStrictlyIncreasing};
 ghost use Rattle.std.specs.Option.{option_and_then, option_map};
 ghost use Rattle.eif_base.specs.Numbering.{is_among};
+ghost use Rattle.eif_class_rows.specs.Phase.{IsErrorOf};
 ghost use Rattle.eif_classes.specs.Binding as binding;
 ghost use Rattle.eif_classes.specs.Clients.{is_available};
 ghost use Rattle.eif_classes.specs.Descent.{descends};
 ghost use Rattle.eif_classes.specs.Entries as entries;
 ghost use Rattle.eif_classes.specs.Entries.{Declaration, Feature};
 ghost use Rattle.eif_classes.specs.Features as the;
+ghost use Rattle.eif_feature_rules.specs.FeaturePhases.{FeaturesBroken};
 ghost use Rattle.eif_rows.specs.Numbers.{class_numbers, name_of, names_of};
 ghost use Rattle.eif_rows.specs.Rows as rows;
 ghost use Rattle.eif_rows.specs.Rows.{IsFeatureRow, IsRow};
 ghost use Rattle.eif_rows.specs.Systems.{IsSystem};
 ghost use Rattle.eif_rows.specs.Versions.{IsDeclaration, IsVersion};
 ghost use Rattle.eif_rows.specs.declared.row.Row as row;
+ghost use Rattle.eif_rules.specs.FaultForms.{IsNone};
 ghost use Rattle.eif_system.specs.Lineage.{line_of};
 ghost use Rattle.eif_table_laws.specs.WholeClasses.{is_whole};
 ghost use Rattle.eif_tables.specs.Numbered.{AreEntries, AreTablesOf, IsTableOf};
@@ -23,12 +26,13 @@ ghost use Rattle.eif_tables.specs.TablesOf.{numbering_of};
 ghost use Rattle.eif_tables.specs.declared.row_entry.RowEntry as entry;
 ghost use Rattle.eif_tree.specs.Tree.{ClassT};
 ghost use Rattle.eif_tree.specs.View.{class_view, decl_view};
-ghost use Rattle.eif_universe.specs.Universes.{classes_of};
+ghost use Rattle.eif_universe.specs.Universes.{classes_of, given_in};
 
 use crate::numbering::{name_numbering, row_entries};
 use crate::origin::Origin;
 use crate::row_entry::RowEntry;
 use eif_base::{ClassId, FeatId, Memory, Name, NameId, Names};
+use eif_class_rows::{TableError, class_rows};
 use eif_rows::{DeclarationPlace, FeatureRow, Row, Version};
 use eif_tree::{ClassTree, FeatureDecl};
 use eif_universe::Universe;
@@ -140,6 +144,17 @@ fn find_entry(entries: &[RowEntry], id: NameId) -> Option<RowEntry>
 }
 
 impl Tables {
+    /// The tables of the universe.
+    pub fn build(alloc: Global, u: &Universe) -> Result<Tables, TableError>
+        requires { IsSystem (classes_of u.now) }
+        ensures tables { IfOk result (AreTables (classes_of u.now)) }
+        ensures sound { OnOk result (IsNone (FeaturesBroken (given_in (classes_of u.now)))) }
+        ensures faults { IfErr result (IsErrorOf (FeaturesBroken (given_in (classes_of u.now)))) }
+    {
+        let rows = class_rows(alloc, u)?;
+        Ok(Tables::of(alloc, rows)?)
+    }
+
     /// The tables of the universe with these rows.
     pub fn of(alloc: Global, rows: Vec<Row>) -> Result<Tables, Memory>
         ensures { IfOk result (λ t. (u : List ClassT) → IsSystem u
