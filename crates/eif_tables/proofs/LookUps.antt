@@ -1,7 +1,5 @@
 -- What a caller of a look-up shows of its numbers.
-use Rattle.std.proofs.Common.{◌≡◌, ℕ, ◌<◌, List, length, Some, ap, sym, subst, ◌∙◌}
-use Rattle.std.proofs.lemmas.List.{length-map}
-use Rattle.std.specs.Prelude.{slice_get}
+use Rattle.std.proofs.Common.{◌≡◌, ℕ, ◌<◌, List, length, Some}
 use Rattle.eif_base.specs.declared.class_id.ClassId.{ClassId}
 use Rattle.eif_base.specs.declared.feat_id.FeatId.{FeatId}
 use Rattle.eif_classes.specs.Features.{names}
