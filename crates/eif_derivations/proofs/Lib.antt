@@ -1,0 +1,9 @@
+pub mod Systems
+pub mod WayLaws
+pub mod Turns
+pub mod DerivationLists
+pub mod GrowingLists
+pub mod ClausesInTurn
+pub mod ParentClauses
+pub mod RowsInTurn
+pub mod Filling

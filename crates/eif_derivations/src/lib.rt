@@ -1,0 +1,17 @@
+//! What classes give the formals of their ancestors, filled in order of inheritance, and the rules
+//! that these derivations break.
+#![tactic(auto)]
+
+mod clause;
+mod derivation;
+mod derived;
+mod digest;
+mod fill;
+mod lists;
+mod row_of_class;
+mod ways;
+
+pub use derivation::{Derivation, DerivationRow};
+pub use fill::Derivations;
+pub use lists::{ActualLists, ListId};
+pub use ways::given_by;
