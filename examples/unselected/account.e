@@ -1,0 +1,6 @@
+class ACCOUNT
+feature
+  close
+    do
+    end
+end

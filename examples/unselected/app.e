@@ -1,0 +1,10 @@
+class APP
+inherit
+  SAVINGS
+  CREDIT
+create make
+feature
+  make
+    do
+    end
+end

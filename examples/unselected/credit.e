@@ -1,0 +1,3 @@
+class CREDIT
+inherit ACCOUNT rename close as close_credit end
+end

@@ -1,0 +1,3 @@
+class SAVINGS
+inherit ACCOUNT
+end
