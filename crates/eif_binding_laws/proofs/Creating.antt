@@ -41,7 +41,7 @@ use Rattle.eif_binding_laws.proofs.Bound.{names_bound}
 use Rattle.eif_binding_laws.proofs.FineClasses.{none_listed, any_at}
 use Rattle.eif_binding_laws.proofs.Keeping.{found_feature, kept}
 use Rattle.eif_binding_laws.proofs.Redeclared.{not_false}
-use Rattle.eif_binding_laws.proofs.Settings.{signature_of, order_of, setting}
+use Rattle.eif_binding_laws.proofs.Settings.{signature_of, order_of, IsSignedSetting, signed_setting}
 use Rattle.eif_binding_laws.proofs.Signing.{all_signed}
 
 -- the name has a signature without a result
@@ -88,7 +88,10 @@ module _ (given : List ClassT) (root : Root) (is : IsWellFormed given root) wher
   u = universe given
 
   abbrev order : List ℕ
-  order = order_of given root is
+  order = order_of given root is.derived
+
+  abbrev whole : IsSignedSetting u order
+  whole = signed_setting given root is
 
   creator_procedure : (d : ℕ) (c : ClassT) → slice_get u d ≡ Some c →
       AllOf (λ n. IsProcedure u (line_of u d) n.name) (creator_names c)
@@ -96,7 +99,7 @@ module _ (given : List ClassT) (root : Root) (is : IsWellFormed given root) wher
       let l = line_of u d in
       let listed : each_listed (creator_faults_by u c l) (creator_names c) ≡ [] =
       none_right (deferred_creation c) (each_listed (creator_faults_by u c l) (creator_names c))
-      ((setting given root is).fine d c at).creators in
+      (whole.signatures d c at).creators in
       none_listed (λ n. IsProcedure u l n.name) (creator_faults_by u c l) (creator_names c) (λ earlier n e.
       let unknown = unknown_creator c l n in
       let result = creator_with_result u c l n in
@@ -106,8 +109,8 @@ module _ (given : List ClassT) (root : Root) (is : IsWellFormed given root) wher
       (none_left unknown result head)) in
       let none = none_where (has_result u l n.name) (fault_at c code.Vgcp 3 n.place n.name)
       (none_right unknown result head) in
-      let f = found_feature u order (setting given root is) d c at n.name has in
-      let s = all_signed u order (setting given root is) d n.name f.0 f.1 in
+      let f = found_feature u order whole d c at n.name has in
+      let s = all_signed u order whole.setting d n.name f.0 f.1 in
       (s.0, s.1, no_result (signature u l n.name) s.0 s.1 none)) listed
 
   -- ---- ANY
@@ -127,7 +130,7 @@ module _ (given : List ClassT) (root : Root) (is : IsWellFormed given root) wher
   clause_number c p k h = ap (λ b. if b then None else class_number u (type_name p.parent)) h.no_formal ∙ h.number
 
   ordered : IsOrder (graph_of u) order
-  ordered = (setting given root is).hierarchy.ordered
+  ordered = whole.setting.hierarchy.ordered
 
   abbrev IsHeir : ℕ → Type 0
   IsHeir d = descends (line_of u d) 0 ≡ true
@@ -139,14 +142,14 @@ module _ (given : List ClassT) (root : Root) (is : IsWellFormed given root) wher
       go true e =
           let same = (bytes_eq-Decides c.name any_name).0 e in
           let zero_is : d ≡ 0 = same_Some d 0
-          (sym (name_denotes given root is.universe d c at) ∙ (ap (class_number u) same ∙ any_first given)) in
+          (sym (name_denotes given root is.derived.universe d c at) ∙ (ap (class_number u) same ∙ any_first given)) in
           subst (λ k. descends (line_of u d) k ≡ true) zero_is (descends_self u order ordered d c at)
       go false e =
           let p = first_clause c e in
           let k = all_at (λ p. (k : ℕ) × NamesClass u c p.parent k) (clauses c) 0 p.0
-          (parents_named given root is.universe d c at) p.1 in
+          (parents_named given root is.derived.universe d c at) p.1 in
           let member = clause_member u c (clauses c) 0 p.0 k.0 p.1 (clause_number c p.0 k.0 k.1) in
-          clause_descends u order (setting given root is).hierarchy d 0 c at
+          clause_descends u order whole.setting.hierarchy d 0 c at
           (parent_descends u c 0 k.0 (clauses c) member (parents k.0 member))
 
   heir : (d : ℕ) (c : ClassT) → slice_get u d ≡ Some c → IsHeir d
@@ -170,11 +173,11 @@ module _ (given : List ClassT) (root : Root) (is : IsWellFormed given root) wher
   pub default_bound : (d : ℕ) (c : ClassT) → slice_get u d ≡ Some c →
       (n : List ℕ) × (default_creator (line_of u d) ≡ Some n) × (signature u (line_of u d) n ≡ Some plain)
   default_bound d c at =
-      let set = setting given root is in
+      let set = whole.setting in
       let down = heir d c at in
-      let b = names_bound u order ordered (λ d c at. (set.fine d c at).decided) d 0 default_name down default_named in
+      let b = names_bound u order ordered (λ d c at. (set.features d c at).decided) d 0 default_name down default_named in
       let xs = set.defined d 0 down in
-      let w = kept u order set d 0 default_name b.0 xs.0 plain xs.1 default_signature b.1 in (
+      let w = kept u order whole d 0 default_name b.0 xs.0 plain xs.1 default_signature b.1 in (
         b.0,
         b.1,
         w.signed ∙ ap Some (ap₂ signature_of w.stands.arguments (none_conforms u d w.theirs.result w.stands.result)),

@@ -1,4 +1,4 @@
--- What it says of a class that it breaks no rule of features and of signatures.
+-- What it says of a class that it breaks no rule of features, and none of signatures.
 use Rattle.std.proofs.Common.{◌≡◌, ℕ, ◌+◌, Bool, true, false, List, [], ◌∷◌, ◌++◌, length, map, take, Option, Some, None, refl, sym, ap, subst, ◌∙◌, arith}
 use Rattle.std.proofs.lemmas.Bool.{eqb-true, eq-eqb}
 use Rattle.std.proofs.lemmas.Option.{same_Some}
@@ -44,7 +44,7 @@ use Rattle.eif_tree.specs.declared.tree.NameAt.{NameAt}
 use Rattle.eif_tree.specs.Members.{has_name}
 use Rattle.eif_tree.specs.Tree.{ParentT, ClassT}
 use Rattle.eif_type_laws.proofs.SameTypes.{and_both}
-use Rattle.eif_binding_laws.specs.WellFormed.{IsWellFormed}
+use Rattle.eif_binding_laws.specs.WellFormed.{IsDerived, IsWellFormed}
 use Rattle.eif_binding_laws.proofs.Searches.{bytes_same, same_bytes, apart}
 
 -- ---- the facts
@@ -55,13 +55,16 @@ UndefinesNoField u c p =
     (q : ℕ) → parent_number u c p ≡ Some q → (m : List ℕ) (f : Feature) → feature (line_of u q) m ≡ Some f →
     is_field f.origin ≡ true → is_undefined p (final_name p m) ≡ false
 
--- l is the line of the class
-pub record IsFine (u : List ClassT) (d : ℕ) (c : ClassT) (l : Line) : Type 0 where
+-- l is the line of the class, which breaks no rule of features
+pub record HasFineFeatures (u : List ClassT) (c : ClassT) (l : Line) : Type 0 where
   -- no ancestor's feature has several candidates of which not one is selected
   pub decided : (k : ℕ) (m : List ℕ) → is_member k (above l) ≡ true →
       has_feature (line_of u k) m ≡ true → is_undecided (clauses c) (candidates (lines_of u c (clauses c)) k m) ≡ false
   pub origins : AllOf (λ f. origin_faults c f ≡ []) (features l)
   pub undefines : AllOf (UndefinesNoField u c) (clauses c)
+
+-- it breaks no rule of signatures
+pub record HasFineSignatures (u : List ClassT) (c : ClassT) (l : Line) : Type 0 where
   pub joins : join_faults u l ≡ []
   pub creators : creator_faults u c l ≡ []
 
@@ -191,10 +194,9 @@ module _ (u : List ClassT) (c : ClassT) (ups : Ups) (ancestors : List ℕ) where
 
 -- ---- a class that breaks no rule
 
-module _ (u : List ClassT) (root : Root) (d : ℕ) (c : ClassT) where
-  fine_by : own_feature_faults u (line_over u d c) ≡ [] → signature_faults u root (line_over u d c) ≡ [] →
-      IsFine u d c (line_over u d c)
-  fine_by h g =
+module _ (u : List ClassT) (d : ℕ) (c : ClassT) where
+  features_by : own_feature_faults u (line_over u d c) ≡ [] → HasFineFeatures u c (line_over u d c)
+  features_by h =
       let ups = lines_of u c (clauses c) in
       let l = line_over u d c in
       let adaptations = each_clause (adaptation_faults c) ups in
@@ -226,9 +228,16 @@ module _ (u : List ClassT) (root : Root) (d : ℕ) (c : ClassT) where
             (parent_features (line_by (line_of u) (parent_number u c p))))) p.redefines) none))
             m f found field)
             (none_of_clauses u c (adaptation_faults c) (clauses c) adapted);
-        joins = none_left (join_faults u l) (creation_faults u root l) g;
+      }
+
+  signatures_by : (root : Root) → signature_faults u root (line_over u d c) ≡ [] →
+      HasFineSignatures u c (line_over u d c)
+  signatures_by root h =
+      let l = line_over u d c in
+      record {
+        joins = none_left (join_faults u l) (creation_faults u root l) h;
         creators = none_left (creator_faults u c l) (root_procedure_faults u root d c l)
-            (none_right (join_faults u l) (creation_faults u root l) g);
+            (none_right (join_faults u l) (creation_faults u root l) h);
       }
 
 -- ---- the kernel's classes
@@ -317,7 +326,7 @@ module _ (given : List ClassT) where
 
 -- ---- all classes
 
-module _ (given : List ClassT) (root : Root) (is : IsWellFormed given root) where
+module _ (given : List ClassT) (root : Root) (is : IsDerived given root) where
   abbrev classes : List ClassT
   classes = universe given
 
@@ -392,51 +401,78 @@ module _ (given : List ClassT) (root : Root) (is : IsWellFormed given root) wher
       let p = parent_class classes order.0 order.1 d q c at m in
       by_parents classes order.0 order.1 AreClean clean_step q p.0 p.1)
 
-  -- ---- each class is fine
+  -- ---- the features of each class are fine
 
-  given_fine : (i : ℕ) (c : ClassT) → slice_get given i ≡ Some c →
-      IsFine classes (kernel_count + i) c (line_over classes (kernel_count + i) c)
-  given_fine i c at =
+  abbrev AreFine : ℕ → ClassT → Type 0
+  AreFine d c = HasFineFeatures classes c (line_over classes d c)
+
+  given_features : (i : ℕ) (c : ClassT) → slice_get given i ≡ Some c → AreFine (kernel_count + i) c
+  given_features i c at =
       let there = given_at given i c at in
       let l = unfolds (kernel_count + i) c there in
-      fine_by classes root (kernel_count + i) c
+      features_by classes (kernel_count + i) c
       (sym (ap (own_feature_faults classes) l) ∙ own_none i c at (all_clean (kernel_count + i) c there))
-      (sym (ap (signature_faults classes root) l) ∙ judged (λ u l. signature_faults u root l) is.signatures i c at)
 
-  abbrev IsFineKernel : ℕ → ClassT → Type 0
-  IsFineKernel d c = IsFine classes d c (line_over classes d c)
-
-  kernel_fine : OfKernel IsFineKernel
-  kernel_fine =
-      let first = unfolds 0 any_class (any_at given) in
-      let o = kernel_origins given first in
-      let j = kernel_joins given first in
-      let r = kernel_creators given first in
+  kernel_features : OfKernel AreFine
+  kernel_features =
+      let o = kernel_origins given (unfolds 0 any_class (any_at given)) in
       let n = kernel_undefines given in
       let k = kernel_decided given in
       record {
-        any = fine 0 any_class o.any j.any r.any n.any k.any;
-        integer = fine 1 integer_class o.integer j.integer r.integer n.integer k.integer;
-        boolean = fine 2 boolean_class o.boolean j.boolean r.boolean n.boolean k.boolean;
-        character = fine 3 character_class o.character j.character r.character n.character k.character;
-        string = fine 4 string_class o.string j.string r.string n.string k.string;
-        array = fine 5 array_class o.array j.array r.array n.array k.array;
+        any = are_fine 0 any_class o.any n.any k.any;
+        integer = are_fine 1 integer_class o.integer n.integer k.integer;
+        boolean = are_fine 2 boolean_class o.boolean n.boolean k.boolean;
+        character = are_fine 3 character_class o.character n.character k.character;
+        string = are_fine 4 string_class o.string n.string k.string;
+        array = are_fine 5 array_class o.array n.array k.array;
       }
     where
-      fine : (d : ℕ) (c : ClassT) → flat_map (origin_faults c) (features (line_over classes d c)) ≡ [] →
-          join_faults classes (line_over classes d c) ≡ [] →
-          creator_faults classes c (line_over classes d c) ≡ [] → AllOf (UndefinesNoField classes c) (clauses c) →
+      are_fine : (d : ℕ) (c : ClassT) → flat_map (origin_faults c) (features (line_over classes d c)) ≡ [] →
+          AllOf (UndefinesNoField classes c) (clauses c) →
           ((k : ℕ) (m : List ℕ) →
           is_undecided (clauses c) (candidates (lines_of classes c (clauses c)) k m) ≡ false) →
-          IsFine classes d c (line_over classes d c)
-      fine d c o j r n k = record {
+          AreFine d c
+      are_fine d c o n k = record {
         decided = λ a m member has. k a m;
         origins = none_of_each (origin_faults c) (features (line_over classes d c)) o;
         undefines = n;
-        joins = j;
-        creators = r;
       }
 
-  pub fine : (d : ℕ) (c : ClassT) → slice_get classes d ≡ Some c → IsFine classes d c (line_of classes d)
-  fine d c at =
-      subst (IsFine classes d c) (sym (unfolds d c at)) (of_each given IsFineKernel kernel_fine given_fine d c at)
+  pub fine_features : (d : ℕ) (c : ClassT) → slice_get classes d ≡ Some c →
+      HasFineFeatures classes c (line_of classes d)
+  fine_features d c at =
+      subst (HasFineFeatures classes c) (sym (unfolds d c at))
+      (of_each given AreFine kernel_features given_features d c at)
+
+-- ---- and the signatures
+
+module _ (given : List ClassT) (root : Root) (is : IsWellFormed given root) where
+  abbrev AreSigned : ℕ → ClassT → Type 0
+  AreSigned d c = HasFineSignatures (universe given) c (line_over (universe given) d c)
+
+  given_signatures : (i : ℕ) (c : ClassT) → slice_get given i ≡ Some c → AreSigned (kernel_count + i) c
+  given_signatures i c at =
+      let l = unfolds given root is.derived (kernel_count + i) c (given_at given i c at) in
+      signatures_by (universe given) (kernel_count + i) c root
+      (sym (ap (signature_faults (universe given) root) l)
+      ∙ judged given root is.derived (λ u l. signature_faults u root l) is.signatures i c at)
+
+  kernel_signatures : OfKernel AreSigned
+  kernel_signatures =
+      let first = unfolds given root is.derived 0 any_class (any_at given) in
+      let j = kernel_joins given first in
+      let r = kernel_creators given first in
+      record {
+        any = record { joins = j.any; creators = r.any };
+        integer = record { joins = j.integer; creators = r.integer };
+        boolean = record { joins = j.boolean; creators = r.boolean };
+        character = record { joins = j.character; creators = r.character };
+        string = record { joins = j.string; creators = r.string };
+        array = record { joins = j.array; creators = r.array };
+      }
+
+  pub fine_signatures : (d : ℕ) (c : ClassT) → slice_get (universe given) d ≡ Some c →
+      HasFineSignatures (universe given) c (line_of (universe given) d)
+  fine_signatures d c at =
+      subst (HasFineSignatures (universe given) c) (sym (unfolds given root is.derived d c at))
+      (of_each given AreSigned kernel_signatures given_signatures d c at)

@@ -50,7 +50,7 @@ module _ (u : List ClassT) (order : List ℕ) (is : IsSetting u order) where
       feature (line_of u d) n ≡ Some f → (x : Declaration) × (f.origin ≡ declared_as x)
   version d c at effective n f found =
       let none = found_has (λ f. origin_faults c f ≡ []) (λ f. bytes_eq f.name n) (features (line_of u d)) f
-      (is.fine d c at).origins found in
+      (is.features d c at).origins found in
       has_version c f.name f.origin effective
       (none_right (clashing_name c f.name f.origin) (deferred_name c f.name f.origin) none)
       (no_clash u order is d c at n f found)

@@ -33,7 +33,7 @@ use Rattle.eif_binding_laws.proofs.Formed.{version, ancestor_types, signature_ty
 use Rattle.eif_binding_laws.proofs.Inherited.{made, has_name_of, found_made, made_is_found}
 use Rattle.eif_binding_laws.proofs.Redeclared.{stands_self, Redeclares, redeclares}
 use Rattle.eif_binding_laws.proofs.Searches.{bytes_same, same_bytes, apart}
-use Rattle.eif_binding_laws.proofs.Settings.{TypesAre, actuals_compose, own_signature, IsSetting}
+use Rattle.eif_binding_laws.proofs.Settings.{TypesAre, actuals_compose, own_signature, IsSetting, IsSignedSetting}
 use Rattle.eif_binding_laws.proofs.Signing.{climbs, all_signed}
 
 -- ---- an entry is among the signed ones
@@ -104,7 +104,10 @@ module _ (u : List ClassT) (c : ClassT) (n : List ℕ) (Q : SignedEntry → Type
 
 -- ---- signatures that stand for one another
 
-module _ (u : List ClassT) (order : List ℕ) (is : IsSetting u order) where
+module _ (u : List ClassT) (order : List ℕ) (strict : IsSignedSetting u order) where
+  abbrev is : IsSetting u order
+  is = strict.setting
+
   results_further : (d : ℕ) (a b c : Option TyT) → ResultConforms u d a b → ResultConforms u d b c →
       ResultConforms u d a c
   results_further d None None c h g = g
@@ -199,7 +202,7 @@ module _ (u : List ClassT) (order : List ℕ) (is : IsSetting u order) where
             found = f.1;
             theirs = s;
             signed = here;
-            stands = subst (StandsFor u d s) (sym same) (stands_self u order is d s types);
+            stands = subst (StandsFor u d s) (sym same) (stands_self u order strict d s types);
             field = λ g found field.
                 let one : f.0 ≡ g = same_Some f.0 g
                 (sym f.1 ∙ (ap₂ (λ d n. feature (line_of u d) n) (sym q) (sym e) ∙ found)) in (
@@ -226,9 +229,9 @@ module _ (u : List ClassT) (order : List ℕ) (is : IsSetting u order) where
           let k_types = signature_types u order is k m s sig in
           let y_types = ancestor_types u order is q k ys.0 ys.1 s k_types in
           let r_types = signature_types u order is q x r.theirs r.signed in
-          let v : Redeclares u order is d f.0 t.0 (signed ca (entry p r.here) r.theirs) =
-          entry_among u c n (Redeclares u order is d f.0 t.0) (clauses c)
-          (redeclares u order is d c at n f.0 t.0 f.1 t.1) i p among q number x r.here r.found (sym final) r.theirs
+          let v : Redeclares u order strict d f.0 t.0 (signed ca (entry p r.here) r.theirs) =
+          entry_among u c n (Redeclares u order strict d f.0 t.0) (clauses c)
+          (redeclares u order strict d c at n f.0 t.0 f.1 t.1) i p among q number x r.here r.found (sym final) r.theirs
           r.signed in
           let up = stands_put d c at i p among q number r.theirs (with_actuals ys.0 s) r_types y_types r.stands in
           record {
@@ -292,7 +295,7 @@ module _ (u : List ClassT) (order : List ℕ) (is : IsSetting u order) where
       (xs : Actuals) (s : Signature) → ancestor u d k ≡ Some xs → signature u (line_of u k) m ≡ Some s →
       IsBound u d k m (with_actuals xs s)
   served d c at effective k m xs s gives sig =
-      let b = names_bound u order is.hierarchy.ordered (λ d c at. (is.fine d c at).decided) d k m
+      let b = names_bound u order is.hierarchy.ordered (λ d c at. (is.features d c at).decided) d k m
       (ancestor_descends u order is.hierarchy d k xs gives) (has_name_here k m s sig) in
       let w = kept d k m b.0 xs s gives sig b.1 in
       let v = version u order is d c at effective b.0 w.here w.found in

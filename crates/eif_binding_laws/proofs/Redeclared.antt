@@ -40,7 +40,7 @@ use Rattle.eif_binding_laws.proofs.Formed.{signed_types}
 use Rattle.eif_binding_laws.proofs.Inherited.{all_names, made, found_made, found_named}
 use Rattle.eif_binding_laws.proofs.Leading.{leading_has, lasting, first_lasting}
 use Rattle.eif_binding_laws.proofs.Searches.{bytes_same, same_bytes, apart, found_has, found_passes}
-use Rattle.eif_binding_laws.proofs.Settings.{TypesAre, IsSetting}
+use Rattle.eif_binding_laws.proofs.Settings.{TypesAre, IsSetting, IsSignedSetting}
 use Rattle.eif_binding_laws.proofs.Signing.{Pairs, AreSigned, IsSignedEntry, signed_pairs, all_signed, ready, seen, led}
 
 pub not_false : (b : Bool) → not b ≡ false → b ≡ true
@@ -202,7 +202,10 @@ declared_tree c n = go (declarations c)
     go [] = refl
     go (x ∷ xs) = named x x.names xs (go xs)
 
-module _ (u : List ClassT) (order : List ℕ) (is : IsSetting u order) (d : ℕ) where
+module _ (u : List ClassT) (order : List ℕ) (strict : IsSignedSetting u order) (d : ℕ) where
+  abbrev is : IsSetting u order
+  is = strict.setting
+
   option_reflexive : (o : Option TyT) → AllOf (IsTypeOf u d) (present o) → ResultConforms u d o o
   option_reflexive None h = tt
   option_reflexive (Some t) h =
@@ -292,7 +295,7 @@ module _ (u : List ClassT) (order : List ℕ) (is : IsSetting u order) (d : ℕ)
         lasts s.entry ≡ true
     field_lasts s w field =
         let b = w.by in
-        let stays = all_at (UndefinesNoField u c) (clauses c) b.place w.p (is.fine d c at).undefines b.among w.q b.names
+        let stays = all_at (UndefinesNoField u c) (clauses c) b.place w.p (is.features d c at).undefines b.among w.q b.names
         s.entry.feature.name s.entry.feature b.found field in
         and_both (is_effective s.entry.feature.origin) (not (is_undefined s.entry.clause s.entry.final))
         (is_field_effective s.entry.feature.origin field)
@@ -408,7 +411,7 @@ module _ (u : List ClassT) (order : List ℕ) (is : IsSetting u order) (d : ℕ)
         signed_name_faults u d c (signed_name u (line d c ups) f) ≡ []
     judged f found =
         let l = unfolded u order is.hierarchy.ordered d c at in
-        let none = sym (ap (join_faults u) l) ∙ (is.fine d c at).joins in
+        let none = sym (ap (join_faults u) l) ∙ (strict.signatures d c at).joins in
         found_has (λ f. signed_name_faults u d c (signed_name u (line d c ups) f) ≡ []) (λ f. bytes_eq f.name n)
         (features (line d c ups)) f
         (all_map (signed_name u (line d c ups)) (λ x. signed_name_faults u d c x ≡ []) (features (line d c ups))

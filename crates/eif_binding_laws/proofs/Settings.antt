@@ -23,8 +23,8 @@ use Rattle.eif_type_laws.proofs.Substitution.{put_put, formals_put_all}
 use Rattle.eif_type_laws.proofs.ValidUniverses as valid
 use Rattle.eif_type_laws.proofs.WholeUniverses.{hierarchy, written_of}
 use Rattle.eif_binding_laws.specs.Signatures.{IsTypeOf}
-use Rattle.eif_binding_laws.specs.WellFormed.{IsWellFormed}
-use Rattle.eif_binding_laws.proofs.FineClasses.{IsFine, fine}
+use Rattle.eif_binding_laws.specs.WellFormed.{IsDerived, IsWellFormed}
+use Rattle.eif_binding_laws.proofs.FineClasses.{HasFineFeatures, HasFineSignatures, fine_features, fine_signatures}
 use Rattle.eif_binding_laws.proofs.Searches.{found_has}
 
 -- ---- signatures
@@ -133,18 +133,24 @@ module _ (u : List ClassT) (c : ClassT) (P : TyT → Type 0) where
 
 -- ---- the setting
 
+-- classes that break no rule of features and of derivations
 pub record IsSetting (u : List ClassT) (order : List ℕ) : Type 0 where
   pub hierarchy : IsHierarchy u order
   pub defined : Defined u
   pub clauses : EachClause u (IsValidClause u)
   pub types : (d : ℕ) (c : ClassT) → slice_get u d ≡ Some c → (n : List ℕ) (x : DeclT) →
       declaration_of c n ≡ Some x → TypesAre (IsTypeOf u d) (declared_signature u c x)
-  pub fine : (d : ℕ) (c : ClassT) → slice_get u d ≡ Some c → IsFine u d c (line_of u d)
+  pub features : (d : ℕ) (c : ClassT) → slice_get u d ≡ Some c → HasFineFeatures u c (line_of u d)
+
+-- nor of signatures
+pub record IsSignedSetting (u : List ClassT) (order : List ℕ) : Type 0 where
+  pub setting : IsSetting u order
+  pub signatures : (d : ℕ) (c : ClassT) → slice_get u d ≡ Some c → HasFineSignatures u c (line_of u d)
 
 first_nested : (t : TypeT) → slice_get (nested t) 0 ≡ Some t
 first_nested (type_at p q m n ts) = refl
 
-module _ (given : List ClassT) (root : Root) (is : IsWellFormed given root) where
+module _ (given : List ClassT) (root : Root) (is : IsDerived given root) where
   abbrev pub order_of : List ℕ
   order_of = (has_order given root is.universe).0
 
@@ -168,5 +174,10 @@ module _ (given : List ClassT) (root : Root) (is : IsWellFormed given root) wher
                   (sym (count_is (universe given) order.0 h d c at)) r.1;
               valid = v;
             })) n x found;
-        fine = fine given root is;
+        features = fine_features given root is;
       }
+
+pub signed_setting : (given : List ClassT) (root : Root) (is : IsWellFormed given root) →
+    IsSignedSetting (universe given) (order_of given root is.derived)
+signed_setting given root is =
+    record { setting = setting given root is.derived; signatures = fine_signatures given root is }

@@ -216,7 +216,7 @@ module _ (u : List ClassT) (order : List ℕ) (is : IsSetting u order) where
       feature (line_of u d) n ≡ Some f → f.origin ≡ clashing → ⊥
   no_clash d c at n f found =
       let none = found_has (λ f. origin_faults c f ≡ []) (λ f. bytes_eq f.name n) (features (line_of u d)) f
-      (is.fine d c at).origins found in
+      (is.features d c at).origins found in
       not_clashing c f.name f.origin
       (none_left (clashing_name c f.name f.origin) (deferred_name c f.name f.origin) none)
 

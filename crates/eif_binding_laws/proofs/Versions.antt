@@ -23,7 +23,7 @@ use Rattle.eif_binding_laws.specs.Signatures.{IsVersion}
 use Rattle.eif_binding_laws.proofs.Formed.{signed_types}
 use Rattle.eif_binding_laws.proofs.Keeping.{has_version}
 use Rattle.eif_binding_laws.proofs.Redeclared.{stands_self}
-use Rattle.eif_binding_laws.proofs.Settings.{IsSetting}
+use Rattle.eif_binding_laws.proofs.Settings.{IsSetting, IsSignedSetting}
 use Rattle.eif_binding_laws.proofs.Signing.{IsSignedEntry, signed_pairs, all_signed, ready, seen}
 
 -- what passes has what all items have
@@ -42,7 +42,10 @@ single_has P [] x h e = cc
 single_has P (y ∷ []) x h e = subst P (same_Some y x e) h.0
 single_has P (y ∷ z ∷ zs) x h e = cc
 
-module _ (u : List ClassT) (order : List ℕ) (is : IsSetting u order) where
+module _ (u : List ClassT) (order : List ℕ) (strict : IsSignedSetting u order) where
+  abbrev is : IsSetting u order
+  is = strict.setting
+
   effective_version : (o : Origin) (x : Declaration) → IsVersion o x → is_effective o ≡ true →
       (y : Declaration) × (o ≡ declared_as y)
   effective_version deferred x v h = cc
@@ -71,8 +74,8 @@ module _ (u : List ClassT) (order : List ℕ) (is : IsSetting u order) where
       let y = effective_version e.feature.origin g.declaration g.version effective in (
         y.0,
         y.1,
-        has_version u order is d s.signature s.entry.feature s.signature g
-            (stands_self u order is d s.signature (signed_types u order is d s.entry.feature s.signature g)) y.0 y.1,
+        has_version u order strict d s.signature s.entry.feature s.signature g
+            (stands_self u order strict d s.signature (signed_types u order is d s.entry.feature s.signature g)) y.0 y.1,
       )
 
   pub precursor_serves : (d : ℕ) (n : List ℕ) (parent : Option (List ℕ)) (s : SignedEntry) →
