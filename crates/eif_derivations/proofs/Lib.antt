@@ -1,5 +1,6 @@
 pub mod Systems
 pub mod WayLaws
+pub mod Given
 pub mod Turns
 pub mod DerivationLists
 pub mod GrowingLists

@@ -1,6 +1,8 @@
 //! The classes of a universe in an order of inheritance.
 
 ghost use Rattle.std.specs.Prelude.{◌≡◌, ◌++◌, ◌∷◌, [], ◌<◌, ℕ, List, flat_map, length, map, slice_get, Some, None, IfOk, OnOk};
+ghost use Rattle.std.specs.Option.{option_map};
+ghost use Rattle.eif_classes.specs.Ancestry.{ancestor};
 ghost use Rattle.eif_derivations.specs.DerivationRows.{IsDerivationRow};
 ghost use Rattle.eif_derivations.specs.Filled.{AreDerivations, AreDerived, HaveDerivations};
 ghost use Rattle.eif_derivations.specs.ListNumbers.{Keeps, lists_of};
@@ -13,14 +15,17 @@ ghost use Rattle.eif_system.specs.Inheritance.{any_clause, graph_of, parent_numb
 ghost use Rattle.eif_system.specs.Lineage.{line_of};
 ghost use Rattle.eif_tree.specs.Tree.{ClassT};
 ghost use Rattle.eif_tree.specs.View.{parent_view};
+ghost use Rattle.eif_type_forms.specs.View.{actuals_view};
 ghost use Rattle.eif_universe.specs.Universes.{classes_of};
 
 use crate::clause::clause_actuals;
 use crate::derivation::DerivationRow;
 use crate::lists::ActualLists;
 use crate::row_of_class::row_of_class;
+use crate::ways::{given_by, list_of};
 use eif_base::{ClassId, FaultList, Memory};
 use eif_tree::ParentClause;
+use eif_type_forms::Ty;
 use eif_universe::Universe;
 use eif_written::any_clauses;
 use std::alloc::Global;
@@ -28,8 +33,8 @@ use std::alloc::Global;
 /// What each class of a universe gives its ancestors, by the numbers of the classes.
 #[derive(Drop)]
 pub struct Derivations {
-    pub lists: ActualLists,
-    pub rows: Vec<DerivationRow>,
+    pub(crate) lists: ActualLists,
+    pub(crate) rows: Vec<DerivationRow>,
 }
 
 /// No row for each of so many classes.
@@ -123,5 +128,27 @@ impl Derivations {
         let filled = fill_rows(alloc, u, &any, u.order(), &mut lists, out)?;
         let rows = all_rows(alloc, filled)?;
         Ok(Derivations { lists, rows })
+    }
+
+    // What the class with that number gives its ancestors.
+    fn row(&self, class_id: ClassId) -> Option<&DerivationRow>
+        ensures { option_map (λ r. r.now) result ≡ slice_get self.now.rows.items class_id.0 }
+    {
+        self.rows.get(class_id.0 as usize)
+    }
+
+    /// What the class gives the formals of the class k. None where it is not k and does not descend
+    /// from it, and where its ways to k do not give one list.
+    pub fn given(&self, class_id: ClassId, k: ClassId) -> Option<&[Ty]>
+        ensures { (u : List ClassT) → IsSystem u → AreDerivations u self.now
+            → option_map (λ l. actuals_view l.now) result ≡ ancestor u class_id.0 k.0 }
+    {
+        match self.row(class_id) {
+            Some(row) => match given_by(class_id, row, k) {
+                Some(id) => list_of(&self.lists, id),
+                None => None,
+            },
+            None => None,
+        }
     }
 }

@@ -11,7 +11,4 @@ mod lists;
 mod row_of_class;
 mod ways;
 
-pub use derivation::{Derivation, DerivationRow};
 pub use fill::Derivations;
-pub use lists::{ActualLists, ListId};
-pub use ways::given_by;

@@ -54,7 +54,7 @@ pub fn given_by(class_id: ClassId, row: &DerivationRow, k: ClassId) -> Option<Op
 }
 
 /// The list with that number, if there is a number.
-fn list_of(lists: &ActualLists, id: Option<ListId>) -> Option<&[Ty]>
+pub fn list_of(lists: &ActualLists, id: Option<ListId>) -> Option<&[Ty]>
     ensures { (xs : Option Actuals) → Holds (lists_of lists.now) id xs
         → option_map (λ l. actuals_view l.now) result ≡ xs }
 {

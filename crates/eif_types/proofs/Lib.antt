@@ -1,0 +1,4 @@
+pub mod TypesIn
+pub mod Turns
+pub mod ActualsInTurn
+pub mod Outcome
