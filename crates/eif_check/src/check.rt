@@ -3,7 +3,7 @@ ghost use Rattle.eif_base.specs.Appends.{Has};
 ghost use Rattle.eif_base.specs.FileLists.{texts_of};
 ghost use Rattle.eif_rules.specs.FaultForms.{IsNone};
 ghost use Rattle.eif_rows.specs.Systems.{IsSystem};
-ghost use Rattle.eif_system_rules.specs.SystemRules.{BodiesBroken, ClassesBroken, SystemBroken};
+ghost use Rattle.eif_system_rules.specs.SystemRules.{BodiesBroken, ClassesBroken, SystemBroken, TypesBroken};
 ghost use Rattle.eif_rules.specs.UniverseRules.{UniverseBroken};
 ghost use Rattle.eif_tree.specs.Tree.{ClassT};
 ghost use Rattle.eif_tree.specs.View.{class_view};
@@ -19,11 +19,12 @@ use eif_base::{FaultList, FileList, Gate, Memory, Root};
 use eif_report::{Verdict, sort_faults};
 use eif_tables::{TableError, Tables};
 use eif_tree::ClassTree;
+use eif_types::{TypeError, Types};
 use eif_universe::{Universe, UniverseError, kernel_trees};
 use std::alloc::Global;
 use std::thread::Threads;
 
-/// The faults of classes that break no rule of the universe and of features.
+/// The faults of classes that break no rule of the universe, of features and of derivations.
 fn bodies_faults(alloc: Global, given: &[ClassTree], root: &Root) -> Result<FaultList, Memory>
     requires { IsNone (UniverseBroken (map class_view given.now) root.now) }
     ensures { IfOk result (λ l. Has l (BodiesBroken (map class_view given.now) root.now)) }
@@ -41,6 +42,20 @@ fn bodies_faults(alloc: Global, given: &[ClassTree], root: &Root) -> Result<Faul
     Ok(faults)
 }
 
+/// The faults of the classes of the universe, which break no rule of features.
+fn types_faults(alloc: Global, universe: &Universe, root: &Root) -> Result<FaultList, Memory>
+    requires system { IsSystem (classes_of universe.now) }
+    requires sound { IsNone (UniverseBroken (given_in (classes_of universe.now)) root.now) }
+    ensures { IfOk result
+        (λ l. Has l (TypesBroken (given_in (classes_of universe.now)) root.now)) }
+{
+    match Types::build(alloc, universe) {
+        Ok(_) => bodies_faults(alloc, universe.given(), root),
+        Err(TypeError::Faults(faults)) => Ok(faults),
+        Err(TypeError::Memory) => Err(Memory),
+    }
+}
+
 /// The faults of the classes of the universe, which breaks no rule of its own.
 fn classes_faults(alloc: Global, universe: &Universe, root: &Root) -> Result<FaultList, Memory>
     requires system { IsSystem (classes_of universe.now) }
@@ -49,7 +64,7 @@ fn classes_faults(alloc: Global, universe: &Universe, root: &Root) -> Result<Fau
         (λ l. Has l (ClassesBroken (given_in (classes_of universe.now)) root.now)) }
 {
     match Tables::build(alloc, universe) {
-        Ok(_) => bodies_faults(alloc, universe.given(), root),
+        Ok(_) => types_faults(alloc, universe, root),
         Err(TableError::Faults(faults)) => Ok(faults),
         Err(TableError::Memory) => Err(Memory),
     }

@@ -9,10 +9,10 @@ use Rattle.eif_tree.specs.Members.{has_name, declarations, declared_names, creat
 use Rattle.eif_system.specs.Kernel.{kernel, kernel_count}
 use Rattle.eif_system.specs.Universe.{universe, class_number}
 use Rattle.eif_classes.specs.KernelNumbers.{is_basic}
-use Rattle.eif_feature_rules.specs.FeaturePhases.{FeaturesBroken}
+use Rattle.eif_feature_rules.specs.FeaturePhases.{FeaturesBroken, DerivationsBroken}
 use Rattle.eif_rules.specs.FaultForms.{IsNone}
 use Rattle.eif_system_rules.specs.PlainClasses.{is_plain, has_plain_form, is_plain_declaration, are_distinct}
-use Rattle.eif_system_rules.specs.SystemRules.{not_yet, no_root_procedure, root_procedure_faults, unknown_names_in, BodiesBroken, ClassesBroken, SystemBroken}
+use Rattle.eif_system_rules.specs.SystemRules.{not_yet, no_root_procedure, root_procedure_faults, unknown_names_in, BodiesBroken, TypesBroken, ClassesBroken, SystemBroken}
 use Rattle.eif_rules.specs.UniverseRules.{UniverseBroken, no_root_class, root_faults, root_number, root_class}
 use Rattle.eif_meaning.specs.System.{system_of}
 use Rattle.eif_sound.specs.Sound.{Sound}
@@ -35,7 +35,8 @@ judged : (given : List ClassT) (root : Root) → IsNone (SystemBroken given root
 judged given root none =
     let universe = first_none (UniverseBroken given root) _ none in
     let classes = later_none (UniverseBroken given root) (ClassesBroken given root) none in
-    let bodies = later_none (FeaturesBroken given) (BodiesBroken given root) classes in
+    let types = later_none (FeaturesBroken given) (TypesBroken given root) classes in
+    let bodies = later_none (DerivationsBroken given) (BodiesBroken given root) types in
     let later = later_none _ _ bodies in
     let root_is = append_empty _ _ (no_member (root_faults given root) (λ f h. universe f (inr h))) in
     record {

@@ -1,5 +1,5 @@
--- The faults of a system of given classes: the breaches of the first phase that has any. Behind the rules of the universe
--- and of features this version judges plain classes alone.
+-- The faults of a system of given classes: the breaches of the first phase that has any. Behind the rules of the universe,
+-- of features and of derivations this version judges plain classes alone.
 use Rattle.std.specs.Prelude.{not, List, [], flat_map}
 use Rattle.std.specs.Option.{option_map_or}
 use Rattle.eif_base.specs.declared.code.Code.TheVariants as code
@@ -9,7 +9,7 @@ use Rattle.eif_base.specs.Appends.{In}
 use Rattle.eif_tree.specs.declared.tree.NameAt.{NameAt}
 use Rattle.eif_tree.specs.Tree.{DeclT, ClassT}
 use Rattle.eif_tree.specs.Members.{has_name, declarations, declared_names, creator_names, body_of, called_in}
-use Rattle.eif_feature_rules.specs.FeaturePhases.{FeaturesBroken}
+use Rattle.eif_feature_rules.specs.FeaturePhases.{FeaturesBroken, DerivationsBroken}
 use Rattle.eif_system.specs.WrittenTypes.{feature_name}
 use Rattle.eif_rules.specs.FaultForms.{fault_at, fault_in, fault_where, FirstOf}
 use Rattle.eif_system_rules.specs.PlainClasses.{is_plain}
@@ -47,15 +47,19 @@ unknown_names_in c = flat_map (unknown_names c (declared_names c)) (declarations
 
 -- ---- the system of the given classes
 
--- of classes that break no rule of the universe and of features
+-- of classes that break no rule of the universe, of features and of derivations
 abbrev pub BodiesBroken : List ClassT → Root → Fault → Type 0
 BodiesBroken given root =
     FirstOf (In (flat_map not_yet given))
     (FirstOf (In (root_procedure_faults given root)) (In (flat_map unknown_names_in given)))
 
+-- of classes that break no rule of the universe and of features
+abbrev pub TypesBroken : List ClassT → Root → Fault → Type 0
+TypesBroken given root = FirstOf (DerivationsBroken given) (BodiesBroken given root)
+
 -- of classes that break no rule of the universe
 abbrev pub ClassesBroken : List ClassT → Root → Fault → Type 0
-ClassesBroken given root = FirstOf (FeaturesBroken given) (BodiesBroken given root)
+ClassesBroken given root = FirstOf (FeaturesBroken given) (TypesBroken given root)
 
 abbrev pub SystemBroken : List ClassT → Root → Fault → Type 0
 SystemBroken given root = FirstOf (UniverseBroken given root) (ClassesBroken given root)
