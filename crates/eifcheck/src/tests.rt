@@ -2,6 +2,7 @@ ghost use Rattle.std.specs.Prelude.{◌≢◌};
 ghost use Rattle.eifcheck.specs.declared.status.Status.TheVariants.{ReadFault, WriteFault};
 
 mod clause_rules;
+mod derivation_rules;
 mod features;
 mod large;
 mod name_rules;

@@ -1,6 +1,7 @@
 //! The phase of features: systems with the report on each.
 
 use super::clause_rules::CLAUSE_RULES;
+use super::derivation_rules::DERIVATION_RULES;
 use super::name_rules::NAME_RULES;
 use super::rows::{A, APP, Row};
 use super::version_rules::VERSION_RULES;
@@ -205,5 +206,7 @@ fn rules_of_features(rt: HostRuntime) -> Result<(), Fail> {
     assert_eq!(rt; wrong, None, "of names");
     let wrong = wrong_of(&rt, rt.alloc(), &VERSION_RULES)?;
     assert_eq!(rt; wrong, None, "of versions");
+    let wrong = wrong_of(&rt, rt.alloc(), &DERIVATION_RULES)?;
+    assert_eq!(rt; wrong, None, "of derivations");
     Ok(())
 }

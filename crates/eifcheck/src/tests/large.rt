@@ -254,6 +254,50 @@ fn a_class_may_have_2048_names(rt: HostRuntime) -> Result<(), Fail> {
     Ok(())
 }
 
+/// A class `B` with an attribute whose type has so many names, all `B` but the last.
+fn deep(alloc: Global, count: usize, last: &str) -> Result<String, Memory> {
+    let mut text = String::from_str(alloc, "class B [G] feature f: detachable ")?;
+    for _ in 1..count {
+        text.push_str("B [")?;
+    }
+    text.push_str(last)?;
+    for _ in 1..count {
+        text.push_str("]")?;
+    }
+    text.push_str(" end")?;
+    Ok(text)
+}
+
+/// `APP` and that class.
+fn with_deep(alloc: Global, count: usize, last: &str) -> Result<System, Memory> {
+    let mut system = new_system(alloc, &["--root", "app.make"])?;
+    app(alloc, &mut system, 0)?;
+    let text = deep(alloc, count, last)?;
+    let name = String::from_str(alloc, "b.e")?;
+    add(alloc, &mut system, name, text.as_bytes(), 0)?;
+    Ok(system)
+}
+
+#[test]
+fn a_type_may_have_100_names(rt: HostRuntime) -> Result<(), Fail> {
+    let alloc = rt.alloc();
+    let mut system = with_deep(alloc, 101, "ANY")?;
+    let report = b"XLIM b f b.e:1:24 b\nno 1 faults\n";
+    let is_so = ends_so(&rt, alloc, &mut system, Status::Faults, report)?;
+    assert!(rt; is_so);
+    let mut system = with_deep(alloc, 100, "ANY")?;
+    let report = b"XYET b - b.e:1:7 -\nno 1 faults\n";
+    let is_so = ends_so(&rt, alloc, &mut system, Status::Faults, report)?;
+    assert!(rt; is_so);
+    let mut system = with_deep(alloc, 100, "G")?;
+    let name = String::from_str(alloc, "d.e")?;
+    add(alloc, &mut system, name, b"class D inherit B [ANY] end", 0)?;
+    let report = b"XYET b - b.e:1:7 -\nXYET d - d.e:1:7 -\nno 2 faults\n";
+    let is_so = ends_so(&rt, alloc, &mut system, Status::Faults, report)?;
+    assert!(rt; is_so);
+    Ok(())
+}
+
 /// A class `M` with 2,048 names, and a chain of so many heirs. The ancestors of the heir with the number k have
 /// 2,048 names k + 1 times, and the three of `ANY`.
 fn wide_chain(alloc: Global, count: usize) -> Result<System, Memory> {
