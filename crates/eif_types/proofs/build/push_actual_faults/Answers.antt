@@ -1,5 +1,4 @@
 use Rattle.std.proofs.Common.{ℕ}
-use Rattle.eif_derivation_laws.specs.GivenDerivations.{actuals_by}
 use Rattle.eif_feature_rules.specs.DerivationRules.{written_actual_faults}
 use Rattle.eif_tree.specs.Tree.{ClassT}
 use Rattle.eif_tree.specs.View.{class_view}

@@ -1,4 +1,4 @@
-use Rattle.std.proofs.Common.{Some, sym, ap, ◌∙◌}
+use Rattle.std.proofs.Common.{sym, ap, ◌∙◌}
 use Rattle.std.specs.Option.{option_map}
 use Rattle.eif_base.specs.declared.class_id.ClassId.{ClassId}
 use Rattle.eif_types.proofs.TypesIn.{denoted_within}

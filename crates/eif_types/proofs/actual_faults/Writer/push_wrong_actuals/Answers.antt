@@ -6,7 +6,6 @@ use Rattle.std.specs.Option.{option_map}
 use Rattle.std.specs.Prelude.{slice_get}
 use Rattle.eif_base.specs.declared.fault.Fault.{Fault}
 use Rattle.eif_tree.specs.View.{class_view, formal_view, type_view}
-use Rattle.eif_tree.specs.declared.tree.TypeTree.{TypeTree}
 use Rattle.eif_types.proofs.ActualsInTurn.{actuals_viewed, all_judged, faults_from, judged, none_more, one_more}
 use Rattle.eif_types.proofs.actual_faults.Writer.push_wrong_actuals.Goals as goal
 

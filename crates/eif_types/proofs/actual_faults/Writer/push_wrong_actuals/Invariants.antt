@@ -1,5 +1,5 @@
 use Rattle.std.proofs.Common.{◌≡◌, ◌++◌, map}
-use Rattle.eif_tree.specs.View.{class_view, formal_view, type_view}
+use Rattle.eif_tree.specs.View.{class_view, type_view}
 use Rattle.eif_types.proofs.ActualsInTurn.{faults_from}
 use Rattle.eif_types.proofs.actual_faults.Writer.push_wrong_actuals.Given as goal
 

@@ -1,4 +1,4 @@
-use Rattle.std.proofs.Common.{◌≡◌, ◌++◌, true, false, List, [], sym, ap, subst, ◌∙◌}
+use Rattle.std.proofs.Common.{◌≡◌, ◌++◌, true, false, List, sym, ap, subst, ◌∙◌}
 use Rattle.eif_base.specs.Appends.{Has}
 use Rattle.eif_base.specs.declared.fault.Fault.{Fault}
 use Rattle.eif_derivation_laws.specs.GivenDerivations.{actuals_by, derivations_by}
