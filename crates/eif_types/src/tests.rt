@@ -1,0 +1,5 @@
+mod conformance;
+mod faults;
+mod forms;
+mod lineage;
+mod trees;
