@@ -74,14 +74,16 @@ def seconds(texts, status):
         return best
 
 
-def main():
+def table(systems):
+    """Prints the time on each system, at each of its sizes."""
     timing.build()
-    print("%-24s %14s %12s %12s %8s" % ("system of", "sizes", "time", "time", "ratio"))
-    for label, (texts_of, sizes, status) in SYSTEMS.items():
+    print("%-26s %14s %12s %12s %8s" % ("system of", "sizes", "time", "time", "ratio"))
+    for label, (texts_of, sizes, status) in systems.items():
         times = [seconds(texts_of(size), status) for size in sizes]
         row = " ".join("%10.0fms" % (1000 * t) for t in times)
         ratio = "%8.2f" % (times[1] / times[0]) if len(times) == 2 else ""
-        print("%-24s %14s %s %s" % (label, ", ".join(map(str, sizes)), row, ratio))
+        print("%-26s %14s %s %s" % (label, ", ".join(map(str, sizes)), row, ratio))
 
 
-main()
+if __name__ == "__main__":
+    table(SYSTEMS)
