@@ -13,7 +13,7 @@ use Rattle.eif_feature_rules.specs.SignaturePairs as pairs
 use Rattle.eif_redecl.specs.declared.declared.DeclaredSignature.{DeclaredSignature}
 use Rattle.eif_redecl.specs.declared.entry.SeenEntry.{SeenEntry}
 use Rattle.eif_rules.specs.FaultForms.{fault_in}
-use Rattle.eif_signatures.specs.View.{signature_view}
+use Rattle.eif_signatures.specs.SignatureViews.{signature_view}
 use Rattle.eif_signatures.specs.declared.signature.Signature as code_form
 use Rattle.eif_system.specs.WrittenTypes.{type_name}
 use Rattle.eif_tree.specs.Tree.{ParentT, ClassT}

@@ -5,7 +5,7 @@ ghost use Rattle.eif_classes.specs.Signatures as signatures;
 ghost use Rattle.eif_feature_rules.specs.RedeclarationRules as rules;
 ghost use Rattle.eif_feature_rules.specs.RuleForms as forms;
 ghost use Rattle.eif_redecl.specs.EntryViews as views;
-ghost use Rattle.eif_signatures.specs.View.{signature_view};
+ghost use Rattle.eif_signatures.specs.SignatureViews.{signature_view};
 ghost use Rattle.eif_tree.specs.Tree.{ClassT};
 ghost use Rattle.eif_tree.specs.View.{class_view};
 ghost use Rattle.eif_types.specs.TypeTables.{AreTypesOf};

@@ -6,7 +6,7 @@ ghost use Rattle.eif_base.specs.declared.code.Code.TheVariants as code;
 ghost use Rattle.eif_feature_rules.specs.JoinRules as rules;
 ghost use Rattle.eif_redecl.specs.EntryViews as views;
 ghost use Rattle.eif_rules.specs.FaultForms.{fault_at, fault_where};
-ghost use Rattle.eif_signatures.specs.View.{signature_view};
+ghost use Rattle.eif_signatures.specs.SignatureViews.{signature_view};
 ghost use Rattle.eif_tree.specs.Tree.{ClassT};
 ghost use Rattle.eif_tree.specs.View.{class_view};
 ghost use Rattle.eif_types.specs.TypeTables.{AreTypesOf};

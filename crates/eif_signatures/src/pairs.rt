@@ -2,7 +2,7 @@
 
 ghost use Rattle.std.specs.Prelude.{◌≡◌, List, length, true};
 ghost use Rattle.eif_feature_rules.specs.SignaturePairs as the;
-ghost use Rattle.eif_signatures.specs.View.{signature_view};
+ghost use Rattle.eif_signatures.specs.SignatureViews.{signature_view};
 ghost use Rattle.eif_tree.specs.Tree.{ClassT};
 ghost use Rattle.eif_types.specs.TypeTables.{AreTypesOf};
 

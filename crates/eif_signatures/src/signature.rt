@@ -5,7 +5,7 @@ ghost use Rattle.std.specs.Option.{option_map};
 ghost use Rattle.eif_classes.specs.Resolution.{resolved};
 ghost use Rattle.eif_classes.specs.Signatures as the;
 ghost use Rattle.eif_classes.specs.Types.{put_in};
-ghost use Rattle.eif_signatures.specs.View.{signature_view};
+ghost use Rattle.eif_signatures.specs.SignatureViews.{signature_view};
 ghost use Rattle.eif_tree.specs.View.{class_view, decl_view, group_view, type_view};
 ghost use Rattle.eif_type_forms.specs.View.{actuals_view, ty_view};
 ghost use Rattle.eif_universe.specs.Universes.{classes_of};

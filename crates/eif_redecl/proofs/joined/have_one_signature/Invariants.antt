@@ -2,7 +2,7 @@ use Rattle.std.proofs.Common.{◌≡◌, map, drop}
 use Rattle.std.specs.List.{list_all}
 use Rattle.eif_feature_rules.specs.SignaturePairs.{are_equal}
 use Rattle.eif_redecl.specs.EntryViews.{EntryView, entry_view}
-use Rattle.eif_signatures.specs.View.{signature_view}
+use Rattle.eif_signatures.specs.SignatureViews.{signature_view}
 use Rattle.eif_redecl.proofs.joined.have_one_signature.Given as goal
 
 abbrev pub invariant-others : goal.invariant-others

@@ -1,7 +1,7 @@
 use Rattle.std.proofs.Common.{◌≡◌, ◌++◌, List, map, drop}
 use Rattle.std.specs.List.{flat_map}
 use Rattle.eif_redecl.specs.EntryViews.{entry_view, faults_beside}
-use Rattle.eif_signatures.specs.View.{signature_view}
+use Rattle.eif_signatures.specs.SignatureViews.{signature_view}
 use Rattle.eif_tree.specs.Tree.{ClassT}
 use Rattle.eif_tree.specs.View.{class_view}
 use Rattle.eif_types.specs.TypeTables.{AreTypesOf}

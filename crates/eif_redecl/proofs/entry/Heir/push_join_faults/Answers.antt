@@ -9,7 +9,7 @@ use Rattle.eif_feature_rules.specs.JoinRules.{fits_others}
 use Rattle.eif_redecl.proofs.ViewLaws.{one_signature, others_fit}
 use Rattle.eif_redecl.specs.EntryViews.{entry_view, fits_beside, have_one_signature}
 use Rattle.eif_rules.specs.FaultForms.{fault_at, fault_where}
-use Rattle.eif_signatures.specs.View.{signature_view}
+use Rattle.eif_signatures.specs.SignatureViews.{signature_view}
 use Rattle.eif_tree.specs.View.{class_view}
 use Rattle.eif_redecl.proofs.entry.Heir.push_join_faults.Goals as goal
 

@@ -5,7 +5,7 @@ use Rattle.eif_classes.specs.Features.{is_attribute}
 use Rattle.eif_classes.specs.Signatures.{Signature, declared_signature}
 use Rattle.eif_redecl.proofs.ViewLaws.{each_beside}
 use Rattle.eif_redecl.specs.EntryViews.{EntryView, entry_view, faults_beside}
-use Rattle.eif_signatures.specs.View.{signature_view}
+use Rattle.eif_signatures.specs.SignatureViews.{signature_view}
 use Rattle.eif_tree.specs.View.{class_view}
 use Rattle.eif_tree.specs.declared.tree.NameAt.{NameAt}
 use Rattle.eif_redecl.proofs.entry.Heir.push_redeclaration_faults.Goals as goal
