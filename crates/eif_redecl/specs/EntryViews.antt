@@ -12,9 +12,9 @@ use Rattle.eif_feature_rules.specs.RuleForms.{DeclaredName}
 use Rattle.eif_feature_rules.specs.SignaturePairs as pairs
 use Rattle.eif_redecl.specs.declared.declared.DeclaredSignature.{DeclaredSignature}
 use Rattle.eif_redecl.specs.declared.entry.SeenEntry.{SeenEntry}
+use Rattle.eif_redecl.specs.declared.joined.JoinedName.{JoinedName}
 use Rattle.eif_rules.specs.FaultForms.{fault_in}
 use Rattle.eif_signatures.specs.SignatureViews.{signature_view}
-use Rattle.eif_signatures.specs.declared.signature.Signature as code_form
 use Rattle.eif_system.specs.WrittenTypes.{type_name}
 use Rattle.eif_tree.specs.Tree.{ParentT, ClassT}
 use Rattle.eif_tree.specs.View.{parent_view}
@@ -56,11 +56,10 @@ pub record IsDeclared (u : List ClassT) (c : ClassT) (n : DeclaredSignature) (x 
   pub written : signature_view n.signature.now ≡ declared_signature u c x.tree
 
 -- the name x, which the class does not declare
-pub record IsJoined (name : List ℕ) (effective : Bool) (s : code_form.Signature) (entries : List SeenEntry) (x : SignedName)
-    : Type 0 where
-  pub named : name ≡ x.feature.name
-  pub version : effective ≡ is_effective x.feature.origin
-  pub signed : x.signature ≡ Some (signature_view s)
+pub record IsJoined (n : JoinedName) (entries : List SeenEntry) (x : SignedName) : Type 0 where
+  pub named : n.name.now ≡ x.feature.name
+  pub version : n.is_effective ≡ is_effective x.feature.origin
+  pub signed : x.signature ≡ Some (signature_view n.signature.now)
   pub seen_are : AreSeen entries x.entries
 
 -- ---- a declared name

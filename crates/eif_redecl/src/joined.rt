@@ -16,6 +16,14 @@ use eif_base::{Code, FaultList, Memory, Name};
 use eif_signatures::{Signature, are_equal, fits};
 use eif_written::{LentFault, push_where};
 
+/// A name that the class does not declare: its signature, and whether it has a version.
+#[derive(Clone, Copy)]
+pub struct JoinedName<'u> {
+    pub name: &'u Name,
+    pub is_effective: bool,
+    pub signature: &'u Signature,
+}
+
 /// Whether the entries have equal signatures.
 fn have_one_signature(entries: &[SeenEntry<'_>]) -> bool
     ensures { result ≡ views.have_one_signature (map views.entry_view entries.now) }
@@ -50,60 +58,54 @@ impl<'u> Heir<'u> {
     /// undefined.
     fn push_unfit_version(
         &self,
-        name: &Name,
-        is_effective: bool,
-        signature: &Signature,
+        joined: &JoinedName<'_>,
         entries: &[SeenEntry<'_>],
         out: &mut FaultList,
     ) -> Result<(), Memory>
         ensures { (u : List ClassT) → AreTypesOf u self.now.types.now → OnOk result
-            (out.new ≡ out.old ++ fault_where (is_effective && not (list_all
-            (views.fits_beside u self.now.class_id.0 (signature_view signature.now))
+            (out.new ≡ out.old ++ fault_where (joined.now.is_effective && not (list_all
+            (views.fits_beside u self.now.class_id.0 (signature_view joined.now.signature.now))
             (map views.entry_view entries.now)))
             (fault_at (class_view self.now.class.now) code.Vdrd 6
-            (class_view self.now.class.now).place name.now)) }
+            (class_view self.now.class.now).place joined.now.name.now)) }
     {
-        let is_broken = is_effective && !self.fits_others(signature, entries);
-        let fault = LentFault::at(self.class, Code::Vdrd, 6, self.class.place, name);
+        let is_broken = joined.is_effective && !self.fits_others(joined.signature, entries);
+        let fault = LentFault::at(self.class, Code::Vdrd, 6, self.class.place, joined.name);
         push_where(self.alloc, out, is_broken, &fault)
     }
 
     /// VDJR.1: the name has no version, and two of its entries have unequal signatures.
     fn push_unequal_join(
         &self,
-        name: &Name,
-        is_effective: bool,
+        joined: &JoinedName<'_>,
         entries: &[SeenEntry<'_>],
         out: &mut FaultList,
     ) -> Result<(), Memory>
-        ensures { OnOk result (out.new ≡ out.old ++ fault_where (not is_effective
+        ensures { OnOk result (out.new ≡ out.old ++ fault_where (not joined.now.is_effective
             && not (views.have_one_signature (map views.entry_view entries.now)))
             (fault_at (class_view self.now.class.now) code.Vdjr 1
-            (class_view self.now.class.now).place name.now)) }
+            (class_view self.now.class.now).place joined.now.name.now)) }
     {
-        let is_broken = !is_effective && !have_one_signature(entries);
-        let fault = LentFault::at(self.class, Code::Vdjr, 1, self.class.place, name);
+        let is_broken = !joined.is_effective && !have_one_signature(entries);
+        let fault = LentFault::at(self.class, Code::Vdjr, 1, self.class.place, joined.name);
         push_where(self.alloc, out, is_broken, &fault)
     }
 
-    /// VDRD.6 and VDJR.1: adds the faults of a name that the class does not declare beside its entries.
-    /// It has this signature, and a version or none.
+    /// VDRD.6 and VDJR.1: adds the faults of the name beside its entries.
     pub fn push_join_faults(
         &self,
-        name: &Name,
-        is_effective: bool,
-        signature: &Signature,
+        joined: &JoinedName<'_>,
         entries: &[SeenEntry<'_>],
         out: &mut FaultList,
     ) -> Result<(), Memory>
         ensures { (u : List ClassT) (x : rules.SignedName) → AreTypesOf u self.now.types.now
-            → views.IsJoined name.now is_effective signature.now entries.now x
+            → views.IsJoined joined.now entries.now x
             → OnOk result (out.new ≡ out.old
             ++ rules.unfit_version u self.now.class_id.0 (class_view self.now.class.now) x
             ++ rules.unequal_join (class_view self.now.class.now) x) }
     {
-        self.push_unfit_version(name, is_effective, signature, entries, out)?;
-        self.push_unequal_join(name, is_effective, entries, out)?;
+        self.push_unfit_version(joined, entries, out)?;
+        self.push_unequal_join(joined, entries, out)?;
         Ok(())
     }
 }

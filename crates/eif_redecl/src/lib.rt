@@ -8,3 +8,4 @@ mod joined;
 
 pub use declared::DeclaredSignature;
 pub use entry::{Heir, SeenEntry};
+pub use joined::JoinedName;

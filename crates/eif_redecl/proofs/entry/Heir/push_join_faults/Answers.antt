@@ -17,7 +17,7 @@ pub returns : goal.returns
 returns c = λ u x types is.
     let d = c.args.self.now.class_id.0 in
     let class = class_view c.args.self.now.class.now in
-    let s = signature_view c.args.signature.now in
+    let s = signature_view c.args.joined.now.signature.now in
     let views = map entry_view c.args.entries.now in
     let told = λ (k : Code) (case : ℕ) (b : Bool) (n : List ℕ). fault_where b (fault_at class k case class.place n) in
     let fit : list_all (fits_beside u d s) views ≡ option_map_or (fits_others u d x.entries) x.signature true =
