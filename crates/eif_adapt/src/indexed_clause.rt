@@ -20,9 +20,10 @@ use eif_base::{Memory, Name, NameSet};
 use eif_tree::{Clients, ExportItem, NameAt, ParentClause, RenamePair};
 use std::alloc::Global;
 
-/// A parent clause, with where it names what.
+/// A parent clause, with where it names what: what it makes of a name is found in about constant
+/// time.
 #[derive(Drop)]
-pub(crate) struct IndexedClause<'c> {
+pub struct IndexedClause<'c> {
     pub tree: &'c ParentClause,
     renames: FirstPlaces,
     exports: FirstPlaces,
@@ -96,6 +97,7 @@ fn name_set(alloc: Global, names: &[NameAt]) -> Result<NameSet, Memory>
 }
 
 impl<'c> IndexedClause<'c> {
+    /// The clause, its lists read once.
     pub fn new(alloc: Global, tree: &'c ParentClause) -> Result<IndexedClause<'c>, Memory>
         ensures { IfOk result (λ c. c.tree.now ≡ tree.now) }
     {
@@ -158,7 +160,7 @@ impl<'c> IndexedClause<'c> {
     }
 
     /// Whether the clause lists the final name as undefined.
-    fn is_undefined(&self, name: &Name) -> bool
+    pub fn is_undefined(&self, name: &Name) -> bool
         ensures { result ≡ the.is_undefined (parent_view self.now.tree.now) name.now }
     {
         self.undefines.has(name)
@@ -179,7 +181,11 @@ impl<'c> IndexedClause<'c> {
     }
 
     /// What the clause makes of the feature.
-    pub fn entry(&self, alloc: Global, feature: &ParentFeature) -> Result<AdaptedEntry, Memory>
+    pub(crate) fn entry(
+        &self,
+        alloc: Global,
+        feature: &ParentFeature,
+    ) -> Result<AdaptedEntry, Memory>
         ensures { IfOk result (λ e. entry_view e
             ≡ adapted (parent_view self.now.tree.now) (feature_view feature.now)) }
     {

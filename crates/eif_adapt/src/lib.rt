@@ -15,6 +15,7 @@ mod rules;
 pub use adaptation::adapt;
 pub use adapted::{Adapted, AdaptedEntry};
 pub use crosses::adapt_crosses;
+pub use indexed_clause::IndexedClause;
 pub use parent_feature::{ParentFeature, ParentState};
 
 #[cfg(test)]

@@ -11,7 +11,7 @@ pub fn kernel_is_derived()
 {}
 
 /// The breaches of the phase are those of the derivations of all classes, in any order of
-/// inheritance, and those of the actuals that the given classes write.
+/// inheritance, and those of the actuals that all classes write.
 pub fn derivations_are_of_given()
     ensures { DerivationsAreOfGiven }
 {}

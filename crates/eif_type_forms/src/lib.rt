@@ -19,6 +19,7 @@ pub use put::{put_type, put_types};
 pub use put_compare::{same_put, same_puts};
 pub use put_sizes::count_puts;
 pub use resolution::{resolve, resolve_all};
+pub use sizes::count_names;
 pub use substitution::{SubstError, substitute};
 pub use ty::{Ty, own_formals, type_at};
 

@@ -26,7 +26,7 @@ pub(crate) fn capped_sum(one: u32, two: u32) -> u32
 
 /// How many names the type has, or one more than it may have where these are more.
 #[cycle(counts)]
-pub(crate) fn count_names(t: &Ty) -> u32
+pub fn count_names(t: &Ty) -> u32
     ensures { result ≡ min (suc MOST_TYPE_NAMES) (name_count (ty_view t.now)) }
 {
     match t {

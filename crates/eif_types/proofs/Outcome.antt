@@ -17,12 +17,12 @@ use Rattle.eif_type_laws.specs.ClassTypes.{Defined}
 use Rattle.eif_universe.specs.Universes.{given_in}
 
 -- the classes after the kernel's are the given ones
-given_are : (given : List ClassT) → given_in (universe given) ≡ given
+pub given_are : (given : List ClassT) → given_in (universe given) ≡ given
 unfolding kernel
 given_are given = drop_at kernel given kernel_count refl
 
 module _ (u : List ClassT) (system : IsSystem u) where
-  same_given : given_in u ≡ system.given
+  pub same_given : given_in u ≡ system.given
   same_given = ap given_in system.is ∙ given_are system.given
 
   abbrev AreFound : List ClassT → List ClassT → Type 0

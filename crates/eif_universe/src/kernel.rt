@@ -19,10 +19,10 @@ use eif_tree::{
 };
 use std::alloc::Global;
 
-// The place of what stands in no file.
-/// How many classes the kernel has. The first is ANY.
-pub(crate) const KERNEL_COUNT: u32 = 6;
+/// How many classes the kernel has: ANY, which is the first, and those with a meaning of their own.
+pub const KERNEL_COUNT: u32 = 6;
 
+// The place of what stands in no file.
 const NOWHERE: Place = Place {
     file: NO_FILE,
     offset: 0,

@@ -13,7 +13,7 @@ mod root_rules;
 mod type_rules;
 mod universe;
 
-pub use kernel::kernel_trees;
+pub use kernel::{KERNEL_COUNT, kernel_trees};
 pub use universe::{Universe, UniverseError, universe_crosses};
 
 #[cfg(test)]
