@@ -1,10 +1,12 @@
 -- Creators have no result, and each class has a name for ANY's `default_create`.
-use Rattle.std.proofs.Common.{◌≡◌, ℕ, Bool, true, false, List, [], ◌∷◌, ◌++◌, map, Option, Some, None, refl, sym, ap, ap₂, subst, ◌∙◌, ⊎_elim}
+use Rattle.std.proofs.Common.{◌≡◌, ℕ, ◌+◌, Bool, true, false, List, [], ◌∷◌, ◌++◌, length, map, Option, Some, None, refl, sym, ap, ap₂, subst, ◌∙◌, ⊎_elim}
 use Rattle.std.proofs.lemmas.Option.{same_Some}
 use Rattle.std.proofs.lemmas.Slice.Eq.{bytes_eq-Decides}
-use Rattle.std.specs.List.{flat_map}
+use Rattle.std.proofs.Math.Dec.{eqb-suc-zero}
+use Rattle.std.proofs.lemmas.Bool.{eq-eqb}
+use Rattle.std.specs.List.{flat_map, list_any}
 use Rattle.std.specs.Option.{option_map_or}
-use Rattle.std.specs.Prelude.{not, slice_get, if◌then◌else◌, is_some, codes}
+use Rattle.std.specs.Prelude.{not, ◌||◌, ◌==◌, slice_get, if◌then◌else◌, is_some, codes}
 use Rattle.std.specs.Str.{bytes_eq}
 use Rattle.eif_base.specs.declared.code.Code.TheVariants as code
 use Rattle.eif_base.specs.declared.root.Root.{Root}
@@ -15,18 +17,19 @@ use Rattle.eif_classes.specs.Features.{has_feature}
 use Rattle.eif_classes.specs.Signatures.{Signature, signature}
 use Rattle.eif_classes.specs.Types.{TyT}
 use Rattle.eif_feature_rules.specs.ClauseRules.{each_listed}
-use Rattle.eif_feature_rules.specs.CreatorRules.{deferred_creation, unknown_creator, has_result, creator_with_result, repeated_creator, creator_faults_by}
+use Rattle.eif_feature_rules.specs.CreatorRules.{is_creator, has_arguments, wrong_root_procedure, deferred_creation, unknown_creator, has_result, creator_with_result, repeated_creator, creator_faults_by}
 use Rattle.eif_lineage_laws.specs.Universes.{NamesClass}
 use Rattle.eif_lineage_laws.proofs.Descending.{lines_of, no_line, class_or_none, parent_descends, descends_self}
 use Rattle.eif_lineage_laws.proofs.EachItem.{AllOf, all_at, all_left, all_right, all_append}
-use Rattle.eif_lineage_laws.proofs.KernelClasses.{any_first}
+use Rattle.eif_lineage_laws.proofs.KernelClasses.{any_first, given_at}
 use Rattle.eif_lineage_laws.proofs.NoFaults.{none_left, none_right, none_where}
 use Rattle.eif_lineage_laws.proofs.Unfolding.{by_parents, Step, unfolded}
 use Rattle.eif_lineage_laws.proofs.WholeClasses.{name_denotes, parents_named}
 use Rattle.eif_rules.specs.FaultForms.{fault_at}
+use Rattle.eif_rules.specs.UniverseRules.{root_number}
 use Rattle.eif_system.specs.Graph.{IsOrder}
 use Rattle.eif_system.specs.Inheritance.{any_clause, clauses, parent_number, graph_of}
-use Rattle.eif_system.specs.Kernel.{any_name, any_class}
+use Rattle.eif_system.specs.Kernel.{kernel_count, any_name, any_class}
 use Rattle.eif_system.specs.Lineage.{Line, line, top, line_of}
 use Rattle.eif_system.specs.Universe.{universe, class_number}
 use Rattle.eif_system.specs.WrittenTypes.{type_name}
@@ -35,12 +38,16 @@ use Rattle.eif_tree.specs.Members.{creator_names}
 use Rattle.eif_tree.specs.Tree.{ParentT, CreatorsT, ClassT}
 use Rattle.eif_type_laws.proofs.Ancestors.{clause_descends}
 use Rattle.eif_type_laws.proofs.Ways.{clause_member}
+use Rattle.eif_ancestry.proofs.Members.{or_cases}
+use Rattle.eif_binding_laws.specs.Creation.{IsPlainCreator}
 use Rattle.eif_binding_laws.specs.KeptSignatures.{ResultConforms}
 use Rattle.eif_binding_laws.specs.WellFormed.{IsWellFormed}
 use Rattle.eif_binding_laws.proofs.Bound.{names_bound}
-use Rattle.eif_binding_laws.proofs.FineClasses.{none_listed, any_at}
+use Rattle.eif_binding_laws.proofs.FineClasses.{none_listed, any_at, fine_root}
 use Rattle.eif_binding_laws.proofs.Keeping.{found_feature, kept}
 use Rattle.eif_binding_laws.proofs.Redeclared.{not_false}
+use Rattle.eif_binding_laws.proofs.RootNumbers.{numbered, given_root, root_number_is}
+use Rattle.eif_binding_laws.proofs.Searches.{same_bytes}
 use Rattle.eif_binding_laws.proofs.Settings.{signature_of, order_of, IsSignedSetting, signed_setting}
 use Rattle.eif_binding_laws.proofs.Signing.{all_signed}
 
@@ -82,6 +89,21 @@ no_result o s e h = go s.result (ap (λ o. option_map_or (λ s. is_some s.result
 none_conforms : (u : List ClassT) (d : ℕ) (o : Option TyT) → ResultConforms u d o None → o ≡ None
 none_conforms u d None h = refl
 none_conforms u d (Some t) h = absurd h
+
+-- the name of a creator is among those that are said of
+creator_has : (P : List ℕ → Type 0) (xs : List Creator) (n : List ℕ) → AllOf (λ x. P x.name) xs →
+    list_any (λ x. bytes_eq x.name n) xs ≡ true → P n
+creator_has P [] n all h = cc
+creator_has P (x ∷ xs) n all h = or_cases (P n) (bytes_eq x.name n) (list_any (λ x. bytes_eq x.name n) xs) h
+    (λ t. subst P (same_bytes x.name n t) all.0) (λ t. creator_has P xs n all.1 t)
+
+no_arguments : (ts : List TyT) → not (length ts == 0) ≡ false → ts ≡ []
+no_arguments [] h = refl
+no_arguments (t ∷ ts) h = let e = eqb-suc-zero (length ts) in cc
+
+both_right : (a b : Bool) → (not a || b) ≡ false → (a ≡ true) × (b ≡ false)
+both_right true b h = (refl, h)
+both_right false b h = cc
 
 module _ (given : List ClassT) (root : Root) (is : IsWellFormed given root) where
   abbrev u : List ClassT
@@ -206,3 +228,31 @@ module _ (given : List ClassT) (root : Root) (is : IsWellFormed given root) wher
       (λ (e : slice_get u d ≡ None).
       let z : None ≡ Some x = sym (ap (λ l. slice_get (creators l) i) (no_line u d e)) ∙ among in cc)
       (class_or_none u d)
+
+  -- ---- the root procedure
+
+  pub root_creator : (i : ℕ) → root_number given root ≡ Some i →
+      IsPlainCreator u (line_of u (kernel_count + i)) root.procedure_name
+  root_creator i number =
+      let d = kernel_count + i in
+      let n = root.procedure_name in
+      let c = numbered given root.class_name i (given_root given root i number) in
+      let l = unfolded u order ordered d c.0 (given_at given i c.0 c.1) in
+      let is_root = ap (λ o. option_map_or (λ k. k == d) o false) (root_number_is given root i number)
+      ∙ eq-eqb d d refl in
+      let none : wrong_root_procedure u c.0 (line_of u d) n ≡ [] =
+      ap (λ l. wrong_root_procedure u c.0 l n) l
+      ∙ sym (ap (λ b. if b then wrong_root_procedure u c.0 (line d c.0 (lines_of u c.0 (clauses c.0))) n else []) is_root)
+      ∙ fine_root given root is i c.0 c.1 in
+      let right = both_right (is_creator (line_of u d) n) (has_arguments u (line_of u d) n)
+      (none_where (not (is_creator (line_of u d) n) || has_arguments u (line_of u d) n)
+      (fault_at c.0 code.Vsrp 1 c.0.place n) none) in
+      let procedure = creator_has (IsProcedure u (line_of u d)) (creators (line_of u d)) n
+      (creators_of d c.0 (given_at given i c.0 c.1)) right.0 in (
+        right.0,
+        procedure.1
+            ∙ ap Some (ap₂ signature_of
+            (no_arguments procedure.0.arguments
+            (sym (ap (λ o. option_map_or (λ s. not (length s.arguments == 0)) o false) procedure.1) ∙ right.1))
+            procedure.2),
+      )

@@ -450,12 +450,25 @@ module _ (given : List ClassT) (root : Root) (is : IsWellFormed given root) wher
   abbrev AreSigned : ℕ → ClassT → Type 0
   AreSigned d c = HasFineSignatures (universe given) c (line_over (universe given) d c)
 
-  given_signatures : (i : ℕ) (c : ClassT) → slice_get given i ≡ Some c → AreSigned (kernel_count + i) c
-  given_signatures i c at =
+  unbroken : (i : ℕ) (c : ClassT) → slice_get given i ≡ Some c →
+      signature_faults (universe given) root (line_over (universe given) (kernel_count + i) c) ≡ []
+  unbroken i c at =
       let l = unfolds given root is.derived (kernel_count + i) c (given_at given i c at) in
-      signatures_by (universe given) (kernel_count + i) c root
-      (sym (ap (signature_faults (universe given) root) l)
-      ∙ judged given root is.derived (λ u l. signature_faults u root l) is.signatures i c at)
+      sym (ap (signature_faults (universe given) root) l)
+      ∙ judged given root is.derived (λ u l. signature_faults u root l) is.signatures i c at
+
+  given_signatures : (i : ℕ) (c : ClassT) → slice_get given i ≡ Some c → AreSigned (kernel_count + i) c
+  given_signatures i c at = signatures_by (universe given) (kernel_count + i) c root (unbroken i c at)
+
+  -- the root procedure, where the class is the root class
+  pub fine_root : (i : ℕ) (c : ClassT) → slice_get given i ≡ Some c →
+      root_procedure_faults (universe given) root (kernel_count + i) c
+      (line_over (universe given) (kernel_count + i) c) ≡ []
+  fine_root i c at =
+      let l = line_over (universe given) (kernel_count + i) c in
+      let root_faults = root_procedure_faults (universe given) root (kernel_count + i) c l in
+      none_right (creator_faults (universe given) c l) root_faults
+      (none_right (join_faults (universe given) l) (creation_faults (universe given) root l) (unbroken i c at))
 
   kernel_signatures : OfKernel AreSigned
   kernel_signatures =

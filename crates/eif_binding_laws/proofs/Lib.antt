@@ -11,4 +11,6 @@ pub mod Comparing
 pub mod Redeclared
 pub mod Keeping
 pub mod Versions
+pub mod RootNumbers
+pub mod CreatorNames
 pub mod Creating

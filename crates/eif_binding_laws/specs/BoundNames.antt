@@ -1,4 +1,5 @@
--- Laws of the names that dynamic binding gives. They are of the classes of a system without a breach.
+-- Laws of the names that dynamic binding gives, in a system without a breach of the universe, of features and of
+-- derivations.
 use Rattle.std.specs.Prelude.{◌≡◌, ℕ, true, false, List, Some, None}
 use Rattle.eif_base.specs.declared.root.Root.{Root}
 use Rattle.eif_classes.specs.Binding.{bind}

@@ -3,7 +3,7 @@
 #![tactic(auto)]
 
 ghost use Rattle.eif_binding_laws.specs.BoundNames.{UnnamedIsUnbound, NamedIsBound};
-ghost use Rattle.eif_binding_laws.specs.Creation.{CreatorsAreProcedures, DefaultIsBound};
+ghost use Rattle.eif_binding_laws.specs.Creation.{CreatorsAreProcedures, DefaultIsBound, RootIsCreator};
 ghost use Rattle.eif_binding_laws.specs.KeptSignatures.{BindingKeepsSignatures, BindingKeepsFields, NamesAreServed};
 ghost use Rattle.eif_binding_laws.specs.Precursors.{PrecursorsServe};
 ghost use Rattle.eif_binding_laws.specs.Origins.{SignaturesAreDeclared, SignaturesAreFormed, NamesHaveVersions};
@@ -41,8 +41,10 @@ pub fn precursors_serve()
     ensures { PrecursorsServe }
 {}
 
-/// Creators have no result, and each class has a name for ANY's `default_create`.
+/// Creators have no result, each class has a name for ANY's `default_create`, and the root procedure is
+/// a creator of the root class without arguments.
 pub fn creators_are_procedures()
     ensures creators { CreatorsAreProcedures }
     ensures default { DefaultIsBound }
+    ensures root { RootIsCreator }
 {}

@@ -19,48 +19,11 @@ behind (x ∷ xs) given i =
     let e : length (x ∷ xs) + i ≡ suc (length xs + i) = omega arith in
     ap (slice_get (x ∷ (xs ++ given))) e ∙ behind xs given i
 
-number_or : (b : Bool) (front all : Option ℕ) (count i : ℕ)
-    → is_some (if b then Some 0 else option_map suc front) ≡ false → (is_some front ≡ false → all ≡ Some (count + i))
-    → (if b then Some 0 else option_map suc all) ≡ Some (suc count + i)
-number_or true front all count i none h = cc
-number_or false (Some k) all count i none h = cc
-number_or false None all count i none h =
-    let same : suc (count + i) ≡ suc count + i = omega arith in ap (option_map suc) (h refl) ∙ ap Some same
-
--- the number of a name that no class in front has
-number_behind : (front given : List ClassT) (n : List ℕ) (i : ℕ) → is_some (class_number front n) ≡ false
-    → class_number given n ≡ Some i → class_number (front ++ given) n ≡ Some (length front + i)
-number_behind [] given n i none e = let same : i ≡ 0 + i = omega arith in e ∙ ap Some same
-number_behind (x ∷ xs) given n i none e =
-    number_or (bytes_eq x.name n) (class_number xs n) (class_number (xs ++ given) n) (length xs) i none
-    (λ k. number_behind xs given n i k e)
-
-numbered_or : (b : Bool) (o : Option ℕ) (x : ClassT) (xs : List ClassT) (i : ℕ)
-    → ((k : ℕ) → o ≡ Some k → (c : ClassT) × (slice_get xs k ≡ Some c))
-    → (if b then Some 0 else option_map suc o) ≡ Some i → (c : ClassT) × (slice_get (x ∷ xs) i ≡ Some c)
-numbered_or true o x xs i h e =
-    let q : 0 ≡ i = cc in (x, subst (λ i. slice_get (x ∷ xs) i ≡ Some x) q refl)
-numbered_or false None x xs i h e = cc
-numbered_or false (Some k) x xs i h e =
-    let q : suc k ≡ i = cc in
-    let c = h k refl in (c.0, subst (λ i. slice_get (x ∷ xs) i ≡ Some c.0) q c.1)
-
--- a number that a name has is that of a class
-pub numbered : (given : List ClassT) (n : List ℕ) (i : ℕ)
-    → class_number given n ≡ Some i → (c : ClassT) × (slice_get given i ≡ Some c)
-numbered [] n i e = cc
-numbered (x ∷ xs) n i e = numbered_or (bytes_eq x.name n) (class_number xs n) x xs i (numbered xs n) e
-
 -- ---- behind the kernel
 
 pub given_is : (given : List ClassT) (i : ℕ) → slice_get (universe given) (kernel_count + i) ≡ slice_get given i
 unfolding kernel
 given_is given i = behind kernel given i
-
-pub number_is : (given : List ClassT) (n : List ℕ) (i : ℕ) → is_some (class_number kernel n) ≡ false
-    → class_number given n ≡ Some i → class_number (universe given) n ≡ Some (kernel_count + i)
-unfolding kernel
-number_is given n i = number_behind kernel given n i
 
 differ : (k n : ℕ) → n < k → (k == n) ≡ false
 differ k n h = grind (arith, nat_tests)

@@ -8,6 +8,7 @@ pub mod Lawful
 pub mod NameSets
 pub mod NoFaults
 pub mod PlainClass
+pub mod RootCreator
 pub mod RunOk
 pub mod Soundness
 pub mod Tests

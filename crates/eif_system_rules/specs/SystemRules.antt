@@ -1,36 +1,24 @@
 -- The faults of a system of given classes: the breaches of the first phase that has any. Behind the rules of the universe,
--- of features and of derivations this version judges plain classes alone.
+-- of features, of derivations and of signatures this version judges plain classes alone.
 use Rattle.std.specs.Prelude.{not, List, [], flat_map}
-use Rattle.std.specs.Option.{option_map_or}
 use Rattle.eif_base.specs.declared.code.Code.TheVariants as code
 use Rattle.eif_base.specs.declared.fault.Fault.{Fault}
 use Rattle.eif_base.specs.declared.root.Root.{Root}
 use Rattle.eif_base.specs.Appends.{In}
 use Rattle.eif_tree.specs.declared.tree.NameAt.{NameAt}
 use Rattle.eif_tree.specs.Tree.{DeclT, ClassT}
-use Rattle.eif_tree.specs.Members.{has_name, declarations, declared_names, creator_names, body_of, called_in}
-use Rattle.eif_feature_rules.specs.FeaturePhases.{FeaturesBroken, DerivationsBroken}
+use Rattle.eif_tree.specs.Members.{has_name, declarations, declared_names, body_of, called_in}
+use Rattle.eif_feature_rules.specs.FeaturePhases.{FeaturesBroken, DerivationsBroken, SignaturesBroken}
 use Rattle.eif_system.specs.WrittenTypes.{feature_name}
 use Rattle.eif_rules.specs.FaultForms.{fault_at, fault_in, fault_where, FirstOf}
 use Rattle.eif_system_rules.specs.PlainClasses.{is_plain}
-use Rattle.eif_rules.specs.UniverseRules.{UniverseBroken, root_class}
+use Rattle.eif_rules.specs.UniverseRules.{UniverseBroken}
 
 -- ---- classes that this version does not judge
 
 -- XYET.1: the class is not plain
 abbrev pub not_yet : ClassT → List Fault
 not_yet c = fault_where (not (is_plain c)) (fault_at c code.Xyet 1 c.place [])
-
--- ---- the root procedure
-
--- of a plain class: it is no creator of the root class
-abbrev pub no_root_procedure : Root → ClassT → List Fault
-no_root_procedure root c =
-    fault_where (not (has_name (creator_names c) root.procedure_name))
-    (fault_at c code.Vsrp 1 c.place root.procedure_name)
-
-abbrev pub root_procedure_faults : List ClassT → Root → List Fault
-root_procedure_faults given root = option_map_or (no_root_procedure root) (root_class given root) []
 
 -- ---- names in bodies
 
@@ -47,15 +35,17 @@ unknown_names_in c = flat_map (unknown_names c (declared_names c)) (declarations
 
 -- ---- the system of the given classes
 
--- of classes that break no rule of the universe, of features and of derivations
-abbrev pub BodiesBroken : List ClassT → Root → Fault → Type 0
-BodiesBroken given root =
-    FirstOf (In (flat_map not_yet given))
-    (FirstOf (In (root_procedure_faults given root)) (In (flat_map unknown_names_in given)))
+-- of classes that break no rule up to those of signatures
+abbrev pub BodiesBroken : List ClassT → Fault → Type 0
+BodiesBroken given = FirstOf (In (flat_map not_yet given)) (In (flat_map unknown_names_in given))
 
--- of classes that break no rule of the universe and of features
+-- of classes that break no rule up to those of derivations
+abbrev pub DeclarationsBroken : List ClassT → Root → Fault → Type 0
+DeclarationsBroken given root = FirstOf (SignaturesBroken given root) (BodiesBroken given)
+
+-- of classes that break no rule up to those of features
 abbrev pub TypesBroken : List ClassT → Root → Fault → Type 0
-TypesBroken given root = FirstOf (DerivationsBroken given) (BodiesBroken given root)
+TypesBroken given root = FirstOf (DerivationsBroken given) (DeclarationsBroken given root)
 
 -- of classes that break no rule of the universe
 abbrev pub ClassesBroken : List ClassT → Root → Fault → Type 0
