@@ -2,3 +2,4 @@ pub mod Assembled
 pub mod Covers
 pub mod Fronts
 pub mod Joins
+pub mod FlatPieces

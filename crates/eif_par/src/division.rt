@@ -29,6 +29,7 @@ fn run_piece<G: Gate, W: PieceWork>(
 ) -> Result<W::Out, Memory>
     requires some { piece < pieces }
     requires within { count ≤ W.items work.now }
+    requires needs { W.needs work.now }
     ensures { IfOk result (GivesPiece (W.gives work.now) count pieces piece) }
 {
     gate.pass(piece);
@@ -47,6 +48,7 @@ fn results_of<R: Threads + Sync, G: Gate + Sync, W: PieceWork + Sync>(
     work: &W,
 ) -> Result<Vec<Result<W::Out, Memory>>, AllocError>
     requires within { count ≤ W.items work.now }
+    requires needs { W.needs work.now }
     ensures count { IfOk result (λ v. vec_len v ≡ pieces) }
     ensures each { let Given = GivesPiece (W.gives work.now) count pieces in
         IfOk result (λ v. (k : ℕ) → k < pieces →
@@ -57,7 +59,7 @@ fn results_of<R: Threads + Sync, G: Gate + Sync, W: PieceWork + Sync>(
         alloc,
         pieces as usize,
         &|k: usize| -> Result<W::Out, Memory>
-            requires { (k < pieces) × (count ≤ W.items work.now) }
+            requires { (k < pieces) × (count ≤ W.items work.now) × W.needs work.now }
             ensures { IfOk result (GivesPiece (W.gives work.entry.now) count pieces k) }
         { run_piece(alloc, count, pieces, k as u32, gate, work) },
     )
@@ -87,6 +89,7 @@ pub fn in_pieces<R: Threads + Sync, G: Gate + Sync, W: PieceWork + Sync>(
 ) -> Result<Vec<W::Out>, Memory>
     requires workers { (1 ≤ workers) × (workers ≤ MOST_WORKERS) }
     requires within { count ≤ W.items work.now }
+    requires needs { W.needs work.now }
     ensures { IfOk result (λ v. ArePieces (W.gives work.now) count (min workers count) v.items) }
 {
     let pieces = workers.min(count);

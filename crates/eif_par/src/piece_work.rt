@@ -11,6 +11,9 @@ pub trait PieceWork {
     /// How many items there are.
     ghost items: { Self → ℕ };
 
+    /// What has to hold of the work before any part of it is done.
+    ghost needs: { Self → Type 0 };
+
     /// What is true of the result for the items from the first number to before the second.
     ghost gives: { Self → ℕ → ℕ → Self.Out → Type 0 };
 
@@ -18,5 +21,6 @@ pub trait PieceWork {
     fn run(&self, alloc: Global, first: u32, past: u32) -> Result<Self::Out, Memory>
         requires order { first ≤ past }
         requires within { past ≤ items self.now }
+        requires needs { needs self.now }
         ensures { IfOk result (λ out. gives self.now first past out) };
 }

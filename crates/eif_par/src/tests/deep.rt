@@ -34,6 +34,8 @@ impl PieceWork for Deep {
 
     ghost items = { λ _. 2 ^ 32 };
 
+    ghost needs = { λ _. ⊤ };
+
     ghost gives = { λ _ _ _ _. ⊤ };
 
     fn run(&self, _alloc: Global, _first: u32, _past: u32) -> Result<u32, Memory> {

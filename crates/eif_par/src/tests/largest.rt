@@ -1,4 +1,4 @@
-ghost use Rattle.std.specs.Prelude.{ℕ, ◌<◌, ◌≤◌, IsSomeAnd, length, slice_index};
+ghost use Rattle.std.specs.Prelude.{ℕ, ◌<◌, ◌≤◌, ⊤, IsSomeAnd, length, slice_index};
 
 use crate::PieceWork;
 use eif_base::Memory;
@@ -14,6 +14,8 @@ impl PieceWork for Largest<'_> {
     type Out = Option<u32>;
 
     ghost items = { λ w. length w.numbers.now };
+
+    ghost needs = { λ _. ⊤ };
 
     ghost gives = { λ w first past out. (k : ℕ) → first ≤ k → k < past
         → IsSomeAnd out (λ n. slice_index w.numbers.now k ≤ n) };
