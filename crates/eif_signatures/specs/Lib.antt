@@ -1,1 +1,2 @@
 pub mod SignatureViews
+pub mod DerivedSystems
