@@ -1,1 +1,3 @@
 pub mod EntryViews
+pub mod SeenClauses
+pub mod SignaturePhase

@@ -31,7 +31,7 @@ pub struct DeclaredSignature<'u> {
 impl<'u> Heir<'u> {
     /// The number of the first rule that the declaration breaks beside the entry.
     fn broken_case(&self, declared: &DeclaredSignature<'_>, entry: &SeenEntry<'_>) -> Option<u8>
-        ensures { (u : List ClassT) → AreTypesOf u self.now.types.now → result
+        ensures { (u : List ClassT) → AreTypesOf u self.now.system.types.now → result
             ≡ views.broken_case u self.now.class_id.0 declared.now.is_attribute
             (signature_view declared.now.signature.now) entry.now.is_field
             (signature_view entry.now.signature) }
@@ -44,7 +44,7 @@ impl<'u> Heir<'u> {
             Some(2)
         } else if !are_of_one_form(one, two) {
             Some(3)
-        } else if !has_conforming_result(self.types, self.class_id, one, two) {
+        } else if !has_conforming_result(self.system.types, self.class_id, one, two) {
             Some(4)
         } else if entry.is_field && !(declared.is_attribute && have_equal_results(one, two)) {
             Some(5)
@@ -60,14 +60,14 @@ impl<'u> Heir<'u> {
         entry: &SeenEntry<'_>,
         out: &mut FaultList,
     ) -> Result<(), Memory>
-        ensures { (u : List ClassT) → AreTypesOf u self.now.types.now → OnOk result
+        ensures { (u : List ClassT) → AreTypesOf u self.now.system.types.now → OnOk result
             (out.new ≡ out.old ++ views.faults_beside u self.now.class_id.0
             (class_view self.now.class.now) declared.now.name.now declared.now.is_attribute
             (signature_view declared.now.signature.now) (views.entry_view entry.now)) }
     {
         match self.broken_case(declared, entry) {
             Some(case) => push_fault(
-                self.alloc,
+                self.system.alloc,
                 out,
                 &LentFault::within(
                     self.class,
@@ -89,7 +89,7 @@ impl<'u> Heir<'u> {
         entries: &[SeenEntry<'_>],
         out: &mut FaultList,
     ) -> Result<(), Memory>
-        ensures { (u : List ClassT) → AreTypesOf u self.now.types.now → OnOk result
+        ensures { (u : List ClassT) → AreTypesOf u self.now.system.types.now → OnOk result
             (out.new ≡ out.old ++ flat_map (views.faults_beside u self.now.class_id.0
             (class_view self.now.class.now) declared.now.name.now declared.now.is_attribute
             (signature_view declared.now.signature.now)) (map views.entry_view entries.now)) }
@@ -109,7 +109,7 @@ impl<'u> Heir<'u> {
         out: &mut FaultList,
     ) -> Result<(), Memory>
         ensures { (u : List ClassT) (x : forms.DeclaredName) (es : List signatures.SignedEntry)
-            → AreTypesOf u self.now.types.now
+            → AreTypesOf u self.now.system.types.now
             → views.IsDeclared u (class_view self.now.class.now) declared.now x
             → views.AreSeen entries.now es → OnOk result (out.new ≡ out.old
             ++ rules.redeclaration_faults u self.now.class_id.0 (class_view self.now.class.now) x es) }

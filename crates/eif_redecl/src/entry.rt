@@ -1,8 +1,6 @@
 use eif_base::ClassId;
-use eif_signatures::Signature;
+use eif_signatures::{Signature, System};
 use eif_tree::{ClassTree, ParentClause};
-use eif_types::Types;
-use std::alloc::Global;
 
 /// An entry of a name of a class, as the class sees it: its clause, whether it is an attribute in the
 /// parent, whether it is effective there and not undefined, and its signature over the formals of the
@@ -15,11 +13,12 @@ pub struct SeenEntry<'u> {
     pub signature: Signature,
 }
 
-/// A class whose names are judged beside their entries, with the types of its universe.
+/// A class whose names are judged beside their entries, in its system, and its parent clauses: `ANY`
+/// where it writes none.
 #[derive(Clone, Copy)]
 pub struct Heir<'u> {
-    pub alloc: Global,
-    pub types: &'u Types,
+    pub system: System<'u>,
     pub class_id: ClassId,
     pub class: &'u ClassTree,
+    pub clauses: &'u [ParentClause],
 }

@@ -42,12 +42,19 @@ fn have_one_signature(entries: &[SeenEntry<'_>]) -> bool
 impl<'u> Heir<'u> {
     /// Whether the signature fits each entry that does not last.
     fn fits_others(&self, signature: &Signature, entries: &[SeenEntry<'_>]) -> bool
-        ensures { (u : List ClassT) → AreTypesOf u self.now.types.now → result
+        ensures { (u : List ClassT) → AreTypesOf u self.now.system.types.now → result
             ≡ list_all (views.fits_beside u self.now.class_id.0 (signature_view signature.now))
             (map views.entry_view entries.now) }
     {
         'entries: for entry in entries {
-            if !entry.lasts && !fits(self.types, self.class_id, signature, &entry.signature) {
+            if !entry.lasts
+                && !fits(
+                    self.system.types,
+                    self.class_id,
+                    signature,
+                    &entry.signature,
+                )
+            {
                 return false;
             }
         }
@@ -62,7 +69,7 @@ impl<'u> Heir<'u> {
         entries: &[SeenEntry<'_>],
         out: &mut FaultList,
     ) -> Result<(), Memory>
-        ensures { (u : List ClassT) → AreTypesOf u self.now.types.now → OnOk result
+        ensures { (u : List ClassT) → AreTypesOf u self.now.system.types.now → OnOk result
             (out.new ≡ out.old ++ fault_where (joined.now.is_effective && not (list_all
             (views.fits_beside u self.now.class_id.0 (signature_view joined.now.signature.now))
             (map views.entry_view entries.now)))
@@ -71,7 +78,7 @@ impl<'u> Heir<'u> {
     {
         let is_broken = joined.is_effective && !self.fits_others(joined.signature, entries);
         let fault = LentFault::at(self.class, Code::Vdrd, 6, self.class.place, joined.name);
-        push_where(self.alloc, out, is_broken, &fault)
+        push_where(self.system.alloc, out, is_broken, &fault)
     }
 
     /// VDJR.1: the name has no version, and two of its entries have unequal signatures.
@@ -88,7 +95,7 @@ impl<'u> Heir<'u> {
     {
         let is_broken = !joined.is_effective && !have_one_signature(entries);
         let fault = LentFault::at(self.class, Code::Vdjr, 1, self.class.place, joined.name);
-        push_where(self.alloc, out, is_broken, &fault)
+        push_where(self.system.alloc, out, is_broken, &fault)
     }
 
     /// VDRD.6 and VDJR.1: adds the faults of the name beside its entries.
@@ -98,7 +105,7 @@ impl<'u> Heir<'u> {
         entries: &[SeenEntry<'_>],
         out: &mut FaultList,
     ) -> Result<(), Memory>
-        ensures { (u : List ClassT) (x : rules.SignedName) → AreTypesOf u self.now.types.now
+        ensures { (u : List ClassT) (x : rules.SignedName) → AreTypesOf u self.now.system.types.now
             → views.IsJoined joined.now entries.now x
             → OnOk result (out.new ≡ out.old
             ++ rules.unfit_version u self.now.class_id.0 (class_view self.now.class.now) x

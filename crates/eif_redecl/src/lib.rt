@@ -1,11 +1,15 @@
-//! The rules of redeclaration and of joining: a name of a class beside its entries, as the class sees
-//! them.
+//! The phase of signatures: the names of a class beside their entries, as the class sees them, its
+//! creators, and the root procedure.
 #![tactic(auto)]
 
+mod check;
+mod creators;
 mod declared;
+mod entries;
 mod entry;
+mod groups;
 mod joined;
+mod names;
+mod root;
 
-pub use declared::DeclaredSignature;
-pub use entry::{Heir, SeenEntry};
-pub use joined::JoinedName;
+pub use check::check_redeclarations;

@@ -8,7 +8,7 @@ use Rattle.eif_redecl.proofs.entry.Heir.fits_others.Given as goal
 
 abbrev pub invariant-entries : goal.invariant-entries
 invariant-entries l =
-    (u : List ClassT) → AreTypesOf u l.self.types.now
+    (u : List ClassT) → AreTypesOf u l.self.system.types.now
     → list_all (fits_beside u l.self.class_id.0 (signature_view l.signature))
     (map entry_view (drop l.entry-index l.entries))
     ≡ list_all (fits_beside u l.self.class_id.0 (signature_view l.signature)) (map entry_view l.entries)

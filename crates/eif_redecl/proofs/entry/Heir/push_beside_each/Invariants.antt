@@ -9,7 +9,7 @@ use Rattle.eif_redecl.proofs.entry.Heir.push_beside_each.Given as goal
 
 abbrev pub invariant-entries : goal.invariant-entries
 invariant-entries l =
-    (u : List ClassT) → AreTypesOf u l.self.types.now
+    (u : List ClassT) → AreTypesOf u l.self.system.types.now
     → l.out ++ flat_map (faults_beside u l.self.class_id.0 (class_view l.self.class.now) l.declared.name.now
     l.declared.is_attribute (signature_view l.declared.signature.now)) (map entry_view (drop l.entry-index l.entries))
     ≡ l.initial.out ++ flat_map (faults_beside u l.self.class_id.0 (class_view l.self.class.now) l.declared.name.now
