@@ -4,5 +4,5 @@ pub mod Forms
 pub mod NameSets
 pub mod OneReading
 pub mod Phases
+pub mod GivenInTurn
 pub mod Readings
-pub mod RootClass

@@ -1,3 +1,4 @@
+pub mod GivenSignatures
 pub mod Limits
 pub mod Mentions
 pub mod OneReading

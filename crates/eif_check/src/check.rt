@@ -1,18 +1,22 @@
 ghost use Rattle.std.specs.Prelude.{◌≡◌, ◌≤◌, [], List, length, map, IfOk};
 ghost use Rattle.eif_base.specs.Appends.{Has};
 ghost use Rattle.eif_base.specs.FileLists.{texts_of};
+ghost use Rattle.eif_feature_rules.specs.FeaturePhases.{FeaturesBroken};
 ghost use Rattle.eif_rules.specs.FaultForms.{IsNone};
 ghost use Rattle.eif_rows.specs.Systems.{IsSystem};
-ghost use Rattle.eif_system_rules.specs.SystemRules.{BodiesBroken, ClassesBroken, SystemBroken, TypesBroken};
+ghost use Rattle.eif_system_rules.specs.SystemRules.{BodiesBroken, ClassesBroken, DeclarationsBroken, SystemBroken, TypesBroken};
 ghost use Rattle.eif_rules.specs.UniverseRules.{UniverseBroken};
+ghost use Rattle.eif_tables.specs.TablesOf.{AreTables};
 ghost use Rattle.eif_tree.specs.Tree.{ClassT};
 ghost use Rattle.eif_tree.specs.View.{class_view};
 ghost use Rattle.eif_universe.specs.Universes.{classes_of, given_in};
+ghost use Rattle.eif_check.specs.GivenSignatures.{AreDerived};
 ghost use Rattle.eif_check.specs.Limits.{AreShort};
 ghost use Rattle.eif_check.specs.Systems.{AreClasses, Broken};
 ghost use Rattle.eif_check.specs.Verdicts.{IsVerdict};
 
-use crate::faults::{push_no_root_procedure, push_not_yet, push_unknown_names};
+use crate::faults::{push_not_yet, push_unknown_names};
+use crate::signatures::{Redeclarations, signatures_faults};
 use crate::texts::{Parsed, parse_texts};
 use eif_base::limits::{MOST_FILES, MOST_WORKERS};
 use eif_base::{FaultList, FileList, Gate, Memory, Root};
@@ -24,17 +28,12 @@ use eif_universe::{Universe, UniverseError, kernel_trees};
 use std::alloc::Global;
 use std::thread::Threads;
 
-/// The faults of classes that break no rule of the universe, of features and of derivations.
-fn bodies_faults(alloc: Global, given: &[ClassTree], root: &Root) -> Result<FaultList, Memory>
-    requires { IsNone (UniverseBroken (map class_view given.now) root.now) }
-    ensures { IfOk result (λ l. Has l (BodiesBroken (map class_view given.now) root.now)) }
+/// The faults of classes that break no rule up to those of signatures.
+fn bodies_faults(alloc: Global, given: &[ClassTree]) -> Result<FaultList, Memory>
+    ensures { IfOk result (λ l. Has l (BodiesBroken (map class_view given.now))) }
 {
     let mut faults = FaultList::new(alloc);
     push_not_yet(alloc, &mut faults, given)?;
-    if !faults.is_empty() {
-        return Ok(faults);
-    }
-    push_no_root_procedure(alloc, &mut faults, given, root)?;
     if !faults.is_empty() {
         return Ok(faults);
     }
@@ -42,42 +41,98 @@ fn bodies_faults(alloc: Global, given: &[ClassTree], root: &Root) -> Result<Faul
     Ok(faults)
 }
 
-/// The faults of the classes of the universe, which break no rule of features.
-fn types_faults(alloc: Global, universe: &Universe, root: &Root) -> Result<FaultList, Memory>
+/// The faults of classes that break no rule up to those of derivations.
+fn declarations_faults<R: Threads + Sync, G: Gate + Sync>(
+    rt: &R,
+    alloc: Global,
+    work: &Redeclarations<'_>,
+    workers: u32,
+    gate: &G,
+) -> Result<FaultList, Memory>
+    requires workers { (1 ≤ workers) × (workers ≤ MOST_WORKERS) }
+    requires derived { AreDerived work.now }
+    ensures { IfOk result
+        (λ l. Has l (DeclarationsBroken (given_in (classes_of work.now.universe.now))
+        work.now.root.now)) }
+{
+    let faults = signatures_faults(rt, alloc, work, workers, gate)?;
+    if !faults.is_empty() {
+        return Ok(faults);
+    }
+    bodies_faults(alloc, work.universe.given())
+}
+
+/// The faults of the classes of the universe, which break no rule up to those of features.
+fn types_faults<R: Threads + Sync, G: Gate + Sync>(
+    rt: &R,
+    alloc: Global,
+    universe: &Universe,
+    tables: &Tables,
+    root: &Root,
+    workers: u32,
+    gate: &G,
+) -> Result<FaultList, Memory>
+    requires workers { (1 ≤ workers) × (workers ≤ MOST_WORKERS) }
     requires system { IsSystem (classes_of universe.now) }
     requires sound { IsNone (UniverseBroken (given_in (classes_of universe.now)) root.now) }
+    requires features { IsNone (FeaturesBroken (given_in (classes_of universe.now))) }
+    requires tables { AreTables (classes_of universe.now) tables.now }
     ensures { IfOk result
         (λ l. Has l (TypesBroken (given_in (classes_of universe.now)) root.now)) }
 {
     match Types::build(alloc, universe) {
-        Ok(_) => bodies_faults(alloc, universe.given(), root),
+        Ok(types) => {
+            let work = Redeclarations {
+                universe,
+                tables,
+                types: &types,
+                root,
+            };
+            declarations_faults(rt, alloc, &work, workers, gate)
+        }
         Err(TypeError::Faults(faults)) => Ok(faults),
         Err(TypeError::Memory) => Err(Memory),
     }
 }
 
 /// The faults of the classes of the universe, which breaks no rule of its own.
-fn classes_faults(alloc: Global, universe: &Universe, root: &Root) -> Result<FaultList, Memory>
+fn classes_faults<R: Threads + Sync, G: Gate + Sync>(
+    rt: &R,
+    alloc: Global,
+    universe: &Universe,
+    root: &Root,
+    workers: u32,
+    gate: &G,
+) -> Result<FaultList, Memory>
+    requires workers { (1 ≤ workers) × (workers ≤ MOST_WORKERS) }
     requires system { IsSystem (classes_of universe.now) }
     requires sound { IsNone (UniverseBroken (given_in (classes_of universe.now)) root.now) }
     ensures { IfOk result
         (λ l. Has l (ClassesBroken (given_in (classes_of universe.now)) root.now)) }
 {
     match Tables::build(alloc, universe) {
-        Ok(_) => types_faults(alloc, universe, root),
+        Ok(tables) => types_faults(rt, alloc, universe, &tables, root, workers, gate),
         Err(TableError::Faults(faults)) => Ok(faults),
         Err(TableError::Memory) => Err(Memory),
     }
 }
 
 /// The faults of a system of these classes.
-fn system_faults(alloc: Global, given: Vec<ClassTree>, root: &Root) -> Result<FaultList, Memory>
-    requires { length given.items ≤ MOST_FILES }
+fn system_faults<R: Threads + Sync, G: Gate + Sync>(
+    rt: &R,
+    alloc: Global,
+    given: Vec<ClassTree>,
+    root: &Root,
+    workers: u32,
+    gate: &G,
+) -> Result<FaultList, Memory>
+    requires workers { (1 ≤ workers) × (workers ≤ MOST_WORKERS) }
+    requires few { length given.items ≤ MOST_FILES }
     ensures { IfOk result (λ l. Has l (SystemBroken (map class_view given.items) root.now)) }
 {
     let kernel = kernel_trees(alloc)?;
     match Universe::build(alloc, kernel, given, root) {
-        Ok(universe) => classes_faults(alloc, &universe, root),
+        Ok(universe) => classes_faults(rt, alloc, &universe, root, workers, gate),
         Err(UniverseError::Faults { faults, .. }) => Ok(faults),
         Err(UniverseError::Memory { .. }) => Err(Memory),
     }
@@ -103,7 +158,7 @@ fn faults_of<R: Threads + Sync, G: Gate + Sync>(
     if !faults.is_empty() {
         return Ok(faults);
     }
-    system_faults(alloc, trees, root)
+    system_faults(rt, alloc, trees, root, workers, gate)
 }
 
 /// The verdict on the system of these files with that root, the same on any number of workers.

@@ -1,22 +1,17 @@
 //! The faults of given classes behind the rules of the universe, rule by rule.
 
-ghost use Rattle.std.specs.Prelude.{◌≡◌, [], ◌++◌, find, flat_map, map, IfOk, OnOk};
-ghost use Rattle.std.specs.Option.{option_map};
-ghost use Rattle.std.specs.Str.{bytes_eq};
-ghost use Rattle.eif_rules.specs.FaultForms.{IsNone, fault_at, fault_in};
+ghost use Rattle.std.specs.Prelude.{◌≡◌, [], ◌++◌, flat_map, map, IfOk, OnOk};
+ghost use Rattle.eif_rules.specs.FaultForms.{fault_at, fault_in};
 ghost use Rattle.eif_system_rules.specs.SystemRules as rules;
-ghost use Rattle.eif_rules.specs.UniverseRules.{UniverseBroken};
 ghost use Rattle.eif_system.specs.WrittenTypes as written;
 ghost use Rattle.eif_tree.specs.Members as parts;
 ghost use Rattle.eif_tree.specs.View.{class_view, decl_view};
 ghost use Rattle.eif_check.specs.Mentions.{name_at};
 ghost use Rattle.eif_check.specs.UnknownNames.{unknown_in, all_unknown_in};
 
-use crate::mention::{
-    Mention, creator_names, declarations, declared_names, has_name, name_set, push_called,
-};
+use crate::mention::{Mention, declarations, declared_names, name_set, push_called};
 use crate::plain::is_plain;
-use eif_base::{Code, Fault, FaultList, Memory, Name, NameSet, Root};
+use eif_base::{Code, Fault, FaultList, Memory, Name, NameSet};
 use eif_tree::{ClassTree, FeatureDecl, NameAt};
 use std::alloc::Global;
 
@@ -55,67 +50,6 @@ pub(crate) fn push_not_yet(
         if !is_plain(alloc, class)? {
             out.push(not_yet_fault(alloc, class)?)?;
         }
-    }
-    Ok(())
-}
-
-fn root_procedure_fault(alloc: Global, class: &ClassTree, root: &Root) -> Result<Fault, Memory>
-    ensures { IfOk result (λ f. let c = class_view class.now in
-        f ≡ fault_at c Code.Vsrp 1 c.place root.now.procedure_name) }
-{
-    Ok(Fault {
-        code: Code::Vsrp,
-        case: 1,
-        class: class.name.copy(alloc)?,
-        feature: no_name(alloc)?,
-        place: class.place,
-        about: root.procedure_name.copy(alloc)?,
-    })
-}
-
-/// Adds the fault of the root class `class`, if the root procedure is no creator of it.
-fn push_no_creator(
-    alloc: Global,
-    out: &mut FaultList,
-    class: &ClassTree,
-    root: &Root,
-) -> Result<(), Memory>
-    ensures { OnOk result (out.new
-        ≡ out.old ++ rules.no_root_procedure root.now (class_view class.now)) }
-{
-    let creators = creator_names(alloc, class)?;
-    if !has_name(&creators, &root.procedure_name) {
-        out.push(root_procedure_fault(alloc, class, root)?)?;
-    }
-    Ok(())
-}
-
-/// The first of the classes with that name.
-fn class_named<'g>(given: &'g [ClassTree], name: &Name) -> Option<&'g ClassTree>
-    ensures { option_map (λ t. class_view t.now) result
-        ≡ find (λ c. bytes_eq c.name name.now) (map class_view given.now) }
-{
-    'classes: for class in given {
-        if class.name == *name {
-            return Some(class);
-        }
-    }
-    None
-}
-
-/// Adds the fault of the root procedure, if it is no creator of the root class.
-pub(crate) fn push_no_root_procedure(
-    alloc: Global,
-    out: &mut FaultList,
-    given: &[ClassTree],
-    root: &Root,
-) -> Result<(), Memory>
-    requires { IsNone (UniverseBroken (map class_view given.now) root.now) }
-    ensures { OnOk result (out.new
-        ≡ out.old ++ rules.root_procedure_faults (map class_view given.now) root.now) }
-{
-    if let Some(class) = class_named(given, &root.class_name) {
-        push_no_creator(alloc, out, class, root)?;
     }
     Ok(())
 }

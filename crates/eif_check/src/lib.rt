@@ -6,6 +6,7 @@ mod faults;
 mod laws;
 mod mention;
 mod plain;
+mod signatures;
 mod texts;
 
 pub use check::check_system;

@@ -161,8 +161,8 @@ fn two_pieces_meet_at_the_gate(rt: HostRuntime) -> Result<(), Fail> {
     let verdict = check_system(&rt, rt.alloc(), &files, &root, 2, &gate)?;
     assert!(rt; is_expected(&verdict, 2, &[of_class(Code::Xyet, "a", 0, "")]));
     for piece in 0..2 {
-        assert_eq!(rt; gate.passes(piece), 1, "of piece {piece}");
-        assert_eq!(rt; gate.meetings(piece), 1, "of piece {piece}");
+        assert_eq!(rt; gate.passes(piece), 2, "of piece {piece}");
+        assert_eq!(rt; gate.meetings(piece), 2, "of piece {piece}");
     }
     Ok(())
 }

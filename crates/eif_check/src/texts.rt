@@ -1,6 +1,6 @@
 //! The first phase: texts are lexed and parsed, divided among workers.
 
-ghost use Rattle.std.specs.Prelude.{◌≡◌, ◌≤◌, [], flat_map, length, IfOk, OnOk, slice_range};
+ghost use Rattle.std.specs.Prelude.{◌≡◌, ◌≤◌, [], ⊤, flat_map, length, IfOk, OnOk, slice_range};
 ghost use Rattle.eif_base.specs.FileLists.{texts_of};
 ghost use Rattle.eif_rules.specs.FaultForms.{fault_of_text};
 ghost use Rattle.eif_check.specs.Limits.{AreShort};
@@ -133,6 +133,8 @@ impl PieceWork for Parsing<'_> {
     type Out = Parsed;
 
     ghost items = { λ w. length w.files.now };
+
+    ghost needs = { λ _. ⊤ };
 
     ghost gives = { λ w first past out.
         IsParsed first (slice_range (texts_of w.files.now) first past) out };

@@ -10,14 +10,14 @@ use Rattle.eif_check.proofs.Phases.{first_has, later_has}
 use Rattle.eif_check.proofs.check.classes_faults.Goals as goal
 
 pub returns-in-Ok : goal.returns-in-Ok
-returns-in-Ok c =
+returns-in-Ok g c =
     let given = given_in (classes_of c.args.universe.now) in
     IfOk-weaker c.types_faults.result _ _
     (λ list has. later_has list (FeaturesBroken given) (TypesBroken given c.args.root.now) c.in-Ok.ensures.sound has)
     c.types_faults.ensures
 
 pub returns-in-Err-Faults : goal.returns-in-Err-Faults
-returns-in-Err-Faults c =
+returns-in-Err-Faults g c =
     let given = given_in (classes_of c.args.universe.now) in
     let broken = FeaturesBroken given in
     let list = c.in-Err-Faults.faults in

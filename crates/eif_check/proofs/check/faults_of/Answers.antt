@@ -14,8 +14,8 @@ returns-then-not-is_empty-clause-faults g c =
     text_faults_are (texts_of c.args.files.now) parsed c.in_ok-trees.ensures c.args.root.now
     (not_empty c.is_empty.result parsed.faults c.is_empty.ensures.1 c.if-not-is_empty.true)
 
-pub system_faults-requires : goal.system_faults-requires
-system_faults-requires g c =
+pub system_faults-requires-clause-few : goal.system_faults-requires-clause-few
+system_faults-requires-clause-few g c κs within =
     let files = c.args.files.now in
     let count = tree_count (texts_of files) c.in_ok-trees.field-0 c.in_ok-trees.ensures
     (c.is_empty.ensures.0 c.if-not-is_empty.false) in

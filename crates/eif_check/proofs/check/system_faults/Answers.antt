@@ -12,18 +12,24 @@ use Rattle.eif_universe.specs.Universes.{classes_of, given_in}
 use Rattle.eif_check.proofs.Phases.{first_has, given_classes, later_has}
 use Rattle.eif_check.proofs.check.system_faults.Goals as goal
 
-pub classes_faults-requires : goal.classes_faults-requires
-classes_faults-requires c =
+pub classes_faults-requires-clause-system : goal.classes_faults-requires-clause-system
+classes_faults-requires-clause-system g c κs within =
+    record {
+      given = map class_view c.args.given.items;
+      root = c.args.root.now;
+      is = c.in-Ok.ensures.ok;
+      sound = c.in-Ok.ensures.sound;
+    }
+
+pub classes_faults-requires-clause-sound : goal.classes_faults-requires-clause-sound
+classes_faults-requires-clause-sound g c κs within =
     let given = map class_view c.args.given.items in
     let same : given_in (classes_of c.in-Ok.universe) ≡ given =
     ap (λ (cs : List ClassT). drop kernel_count cs) c.in-Ok.ensures.ok ∙ given_classes given in
-    record {
-      system = record { given = given; root = c.args.root.now; is = c.in-Ok.ensures.ok; sound = c.in-Ok.ensures.sound };
-      sound = subst (λ (cs : List ClassT). IsNone (UniverseBroken cs c.args.root.now)) (sym same) c.in-Ok.ensures.sound;
-    }
+    subst (λ (cs : List ClassT). IsNone (UniverseBroken cs c.args.root.now)) (sym same) c.in-Ok.ensures.sound
 
 pub returns-in-Ok : goal.returns-in-Ok
-returns-in-Ok c =
+returns-in-Ok g c =
     let given = map class_view c.args.given.items in
     let same : given_in (classes_of c.in-Ok.universe) ≡ given =
     ap (λ (cs : List ClassT). drop kernel_count cs) c.in-Ok.ensures.ok ∙ given_classes given in
@@ -33,7 +39,7 @@ returns-in-Ok c =
     c.classes_faults.ensures
 
 pub returns-in-Err-Faults : goal.returns-in-Err-Faults
-returns-in-Err-Faults c =
+returns-in-Err-Faults g c =
     let given = map class_view c.args.given.items in
     let broken = UniverseBroken given c.args.root.now in
     let list = c.in-Err-Faults.faults in
