@@ -4,9 +4,13 @@ ghost use Rattle.eifcheck.specs.declared.status.Status.TheVariants.{ReadFault, W
 mod clause_rules;
 mod derivation_rules;
 mod features;
+mod join_rules;
 mod large;
 mod name_rules;
+mod result_rules;
 mod rows;
+mod signature_rows;
+mod signature_rules;
 mod version_rules;
 
 use crate::system::complaint;
@@ -14,6 +18,7 @@ use crate::{Status, eifcheck};
 use eif_base::{FileTexts, MemSink, MemTexts, OpenGate, SureSink, SureTexts, Texts};
 use features::FEATURE_ROWS;
 use rows::{APP, ROWS, Row};
+use signature_rows::SIGNATURE_ROWS;
 use std::alloc::{AllocError, Global};
 use std::fs;
 use std::rt::Files;
@@ -350,6 +355,8 @@ fn systems_in_memory(rt: HostRuntime) -> Result<(), Fail> {
     assert_eq!(rt; wrong, None);
     let wrong = wrong_in_memory(&rt, rt.alloc(), &FEATURE_ROWS)?;
     assert_eq!(rt; wrong, None, "of the rules of features");
+    let wrong = wrong_in_memory(&rt, rt.alloc(), &SIGNATURE_ROWS)?;
+    assert_eq!(rt; wrong, None, "of the rules of signatures");
     Ok(())
 }
 
@@ -359,6 +366,8 @@ fn systems_without_failures(rt: HostRuntime) -> Result<(), Fail> {
     assert_eq!(rt; wrong, None);
     let wrong = wrong_surely(&rt, rt.alloc(), &FEATURE_ROWS)?;
     assert_eq!(rt; wrong, None, "of the rules of features");
+    let wrong = wrong_surely(&rt, rt.alloc(), &SIGNATURE_ROWS)?;
+    assert_eq!(rt; wrong, None, "of the rules of signatures");
     Ok(())
 }
 
@@ -368,6 +377,8 @@ fn systems_in_files(rt: HostRuntime) -> Result<(), Fail> {
     assert_eq!(rt; wrong, None);
     let wrong = wrong_over_files(&rt, rt.alloc(), &FEATURE_ROWS)?;
     assert_eq!(rt; wrong, None, "of the rules of features");
+    let wrong = wrong_over_files(&rt, rt.alloc(), &SIGNATURE_ROWS)?;
+    assert_eq!(rt; wrong, None, "of the rules of signatures");
     Ok(())
 }
 

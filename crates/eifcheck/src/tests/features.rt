@@ -2,8 +2,11 @@
 
 use super::clause_rules::CLAUSE_RULES;
 use super::derivation_rules::DERIVATION_RULES;
+use super::join_rules::JOIN_RULES;
 use super::name_rules::NAME_RULES;
+use super::result_rules::RESULT_RULES;
 use super::rows::{A, APP, Row};
+use super::signature_rules::SIGNATURE_RULES;
 use super::version_rules::VERSION_RULES;
 use super::{WORKERS, ends_so, mem_texts, owned};
 use crate::Status;
@@ -213,5 +216,16 @@ fn rules_of_features(rt: HostRuntime) -> Result<(), Fail> {
 fn rules_of_derivations(rt: HostRuntime) -> Result<(), Fail> {
     let wrong = wrong_of(&rt, rt.alloc(), &DERIVATION_RULES)?;
     assert_eq!(rt; wrong, None);
+    Ok(())
+}
+
+#[test]
+fn rules_of_signatures(rt: HostRuntime) -> Result<(), Fail> {
+    let wrong = wrong_of(&rt, rt.alloc(), &SIGNATURE_RULES)?;
+    assert_eq!(rt; wrong, None, "of declared names and creators");
+    let wrong = wrong_of(&rt, rt.alloc(), &RESULT_RULES)?;
+    assert_eq!(rt; wrong, None, "of results");
+    let wrong = wrong_of(&rt, rt.alloc(), &JOIN_RULES)?;
+    assert_eq!(rt; wrong, None, "of inherited names");
     Ok(())
 }

@@ -289,10 +289,26 @@ fn a_type_may_have_100_names(rt: HostRuntime) -> Result<(), Fail> {
     let report = b"XYET b - b.e:1:7 -\nno 1 faults\n";
     let is_so = ends_so(&rt, alloc, &mut system, Status::Faults, report)?;
     assert!(rt; is_so);
+    Ok(())
+}
+
+/// `APP`, the class `B` with 100 names in that type, the last of them its formal, and an heir `D`.
+fn with_deep_heir(alloc: Global, heir: &[u8]) -> Result<System, Memory> {
     let mut system = with_deep(alloc, 100, "G")?;
     let name = String::from_str(alloc, "d.e")?;
-    add(alloc, &mut system, name, b"class D inherit B [ANY] end", 0)?;
+    add(alloc, &mut system, name, heir, 0)?;
+    Ok(system)
+}
+
+#[test]
+fn an_inherited_type_may_have_100_names(rt: HostRuntime) -> Result<(), Fail> {
+    let alloc = rt.alloc();
+    let mut system = with_deep_heir(alloc, b"class D inherit B [ANY] end")?;
     let report = b"XYET b - b.e:1:7 -\nXYET d - d.e:1:7 -\nno 2 faults\n";
+    let is_so = ends_so(&rt, alloc, &mut system, Status::Faults, report)?;
+    assert!(rt; is_so);
+    let mut system = with_deep_heir(alloc, b"class D inherit B [B [ANY]] end")?;
+    let report = b"XLIM d - d.e:1:7 f\nno 1 faults\n";
     let is_so = ends_so(&rt, alloc, &mut system, Status::Faults, report)?;
     assert!(rt; is_so);
     Ok(())
