@@ -63,7 +63,7 @@ use Rattle.eif_run_sound.specs.ExpressionRuns.{IsEntity, Told, flow_of, flow_of_
 use Rattle.eif_run_sound.specs.Fields.{due}
 use Rattle.eif_run_sound.specs.Invariant.{Shows, Gives, held_in, Held, Good, Later}
 use Rattle.eif_run_sound.specs.UniverseLaws.{all_closed, maybe_closed, UniverseLaws}
-use Rattle.eif_run_sound.specs.WrittenTexts.{IsUnary, IsBinary, IsWritten, AreWritten}
+use Rattle.eif_spelled_trees.specs.WrittenTexts.{IsUnary, IsBinary, IsWritten, AreWritten}
 use Rattle.eif_run_sound.proofs.States.{chain, among_false, among_neither, later_same, later_on, later_within, later_extends, later_then, held_in_later, held_later, shows_grown, good_extends, good_known, good_ready}
 use Rattle.eif_run_sound.proofs.Flows.{flow_keeps}
 use Rattle.eif_run_sound.proofs.Known.{Apart, held_none, held_fewer, held_both, told_apart}

@@ -55,7 +55,7 @@ use Rattle.eif_run_sound.specs.ExpressionRuns.{flow_of, flow_of_all, MetOn, behi
 use Rattle.eif_run_sound.specs.InstructionRuns.{Done, CompoundsKeep}
 use Rattle.eif_run_sound.specs.Invariant.{Gives, DenotesNothing, Good}
 use Rattle.eif_run_sound.specs.UniverseLaws.{IsTypeIn, UniverseLaws}
-use Rattle.eif_run_sound.specs.WrittenTexts.{OfType, IsWritten, AreWritten, InstructionIsWritten, CompoundIsWritten, BranchesAreWritten, OtherwiseIsWritten}
+use Rattle.eif_spelled_trees.specs.WrittenTexts.{OfType, IsWritten, AreWritten, InstructionIsWritten, CompoundIsWritten, BranchesAreWritten, OtherwiseIsWritten}
 use Rattle.eif_run_sound.proofs.States.{or_cases, or_left, or_right, chain, later_same, later_on, shows_grown, good_extends, good_known, good_ready}
 use Rattle.eif_run_sound.proofs.Flows.{and_left, and_right}
 use Rattle.eif_run_sound.proofs.Known.{held_both, held_fewer, told_apart}

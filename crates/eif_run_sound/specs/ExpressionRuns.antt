@@ -25,7 +25,7 @@ use Rattle.eif_run_sound.specs.Bodies.{Running, frame_of, setting_of, meanings_o
 use Rattle.eif_run_sound.specs.Fields.{Met, behind}
 use Rattle.eif_run_sound.specs.Invariant.{Gives, Held, held_in, Good, Later}
 use Rattle.eif_run_sound.specs.UniverseLaws.{IsTypeIn}
-use Rattle.eif_run_sound.specs.WrittenTexts.{IsWritten, AreWritten}
+use Rattle.eif_spelled_trees.specs.WrittenTexts.{IsWritten, AreWritten}
 
 -- the name is that of an argument or a local
 abbrev pub IsEntity : Option Entity → Type 0

@@ -14,7 +14,7 @@ use Rattle.eif_run_laws.specs.Steps.{Safe, heap_of}
 use Rattle.eif_run_sound.specs.Bodies.{Running, frame_of, setting_of, meanings_of}
 use Rattle.eif_run_sound.specs.ExpressionRuns.{MetOn, behind_on, HidesNone, IsTypeOfText}
 use Rattle.eif_run_sound.specs.Invariant.{Good}
-use Rattle.eif_run_sound.specs.WrittenTexts.{CompoundIsWritten}
+use Rattle.eif_spelled_trees.specs.WrittenTexts.{CompoundIsWritten}
 
 -- objects stayed, and the invariant holds with this known and set
 pub record Done (u : List ClassT) (r : Running u) (k : List Fact) (set : List (List ℕ))

@@ -1,7 +1,6 @@
 pub mod Fields
 pub mod Bodies
 pub mod Invariant
-pub mod WrittenTexts
 pub mod UniverseLaws
 pub mod ExpressionRuns
 pub mod InstructionRuns

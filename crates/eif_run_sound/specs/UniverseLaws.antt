@@ -41,7 +41,7 @@ use Rattle.eif_run_laws.specs.KernelSignatures.{class_with, signature_of}
 use Rattle.eif_run_laws.specs.SystemLaws.{TypeLaws}
 use Rattle.eif_run_sound.specs.Bodies.{IsRoutine, signature_on, flow_on}
 use Rattle.eif_run_sound.specs.Fields.{due, Met, behind}
-use Rattle.eif_run_sound.specs.WrittenTexts.{CompoundIsWritten}
+use Rattle.eif_spelled_trees.specs.WrittenTexts.{CompoundIsWritten}
 
 -- ---- types
 

@@ -1,0 +1,9 @@
+pub mod CutTokens
+pub mod Eaches
+pub mod Keeping
+pub mod SpelledClasses
+pub mod SpelledDeclarations
+pub mod SpelledKernel
+pub mod Tests
+pub mod WrittenExpressions
+pub mod WrittenInstructions

@@ -1,0 +1,2 @@
+pub mod WrittenTexts
+pub mod SpelledTrees
