@@ -1,0 +1,4 @@
+pub mod FinalClasses
+pub mod Heirs
+pub mod KernelObjects
+pub mod LawfulKernel
