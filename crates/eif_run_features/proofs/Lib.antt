@@ -1,0 +1,9 @@
+pub mod Kernel
+pub mod Spelled
+pub mod NoResult
+pub mod Names
+pub mod Closing
+pub mod Served
+pub mod Fields
+pub mod Precursors
+pub mod LawfulFeatures
