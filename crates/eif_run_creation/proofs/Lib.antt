@@ -1,0 +1,7 @@
+pub mod Callees
+pub mod Bodies
+pub mod Closing
+pub mod DueFields
+pub mod CleanCreators
+pub mod Creation
+pub mod RootClass
