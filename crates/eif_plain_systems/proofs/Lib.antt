@@ -1,0 +1,5 @@
+pub mod Lists
+pub mod PlainParts
+pub mod PlainBodies
+pub mod NoFields
+pub mod Systems

@@ -1,0 +1,2 @@
+//! Systems that break no rule of the language; definitions alone.
+#![tactic(auto)]
