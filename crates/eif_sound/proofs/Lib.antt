@@ -1,14 +1,1 @@
-pub mod Bodies
-pub mod Calls
-pub mod DeclaredNames
-pub mod GivenClasses
-pub mod Heaps
-pub mod Keeps
-pub mod Lawful
-pub mod NameSets
-pub mod NoFaults
-pub mod PlainClass
-pub mod RootCreator
-pub mod RunOk
 pub mod Soundness
-pub mod Tests

@@ -1,1 +1,2 @@
+pub mod LawfulSystems
 pub mod Sound

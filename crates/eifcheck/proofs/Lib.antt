@@ -9,5 +9,6 @@ pub mod NoMemory
 pub mod Reports
 pub mod Rows
 pub mod Sequences
+pub mod SoundTexts
 pub mod Soundness
 pub mod Workers

@@ -1,5 +1,4 @@
 use Rattle.std.proofs.Common.{map, string_bytes}
-use Rattle.eif_sound.proofs.Soundness as soundness
 use Rattle.eifcheck.specs.Form.{form}
 use Rattle.eifcheck.specs.ReadWords.{command_of}
 use Rattle.eifcheck.proofs.Completeness.{complete_words}
@@ -14,7 +13,7 @@ returns-in-Ok-clause-complete g c =
 
 pub returns-in-Ok-clause-sound : goal.returns-in-Ok-clause-sound
 returns-in-Ok-clause-sound g c =
-    sound_words (form (map string_bytes c.args.words.now)) (command_of c.in-Ok.words) c.in-Ok.ensures soundness.sound
+    sound_words (form (map string_bytes c.args.words.now)) (command_of c.in-Ok.words) c.in-Ok.ensures
     _ _ _ _ _ _ c.check.ensures.answer
 
 pub returns-in-Err-Memory-clause-answer : goal.returns-in-Err-Memory-clause-answer
